@@ -1,0 +1,3 @@
+// The period list: the periods that a task may have.
+pub mod list;
+pub mod theorems;
