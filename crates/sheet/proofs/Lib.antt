@@ -1,0 +1,9 @@
+pub mod Padding
+pub mod Named
+pub mod Reading
+pub mod Accepted
+pub mod Sizes
+pub mod ReadsBack
+pub mod WritesBack
+pub mod Puts
+pub mod Slots
