@@ -1,0 +1,4 @@
+pub mod Test
+pub mod Ranges
+pub mod Laws
+pub mod Examples
