@@ -1,0 +1,5 @@
+pub mod Examples
+pub mod Lines
+pub mod Refusals
+pub mod Texts
+pub mod Written
