@@ -1,0 +1,5 @@
+pub mod Heaps
+pub mod Sifts
+pub mod Jobs
+pub mod Coming
+pub mod Releases

@@ -1,0 +1,4 @@
+pub mod Counts
+pub mod Room
+pub mod Waits
+pub mod Refusing

@@ -1,0 +1,9 @@
+pub mod Rows
+pub mod Counts
+pub mod Bits
+pub mod Joins
+pub mod Lanes
+pub mod Fresh
+pub mod Leading
+pub mod Puts
+pub mod Takes

@@ -1,0 +1,4 @@
+pub mod Urgency
+pub mod Orderings
+pub mod Counting
+pub mod Puts
