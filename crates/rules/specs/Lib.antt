@@ -1,0 +1,11 @@
+pub mod Refusals
+pub mod State
+pub mod Release
+pub mod Tick
+pub mod Step
+pub mod Run
+pub mod Deadlines
+pub mod Promises
+pub mod Demand
+pub mod Accounts
+pub mod Examples
