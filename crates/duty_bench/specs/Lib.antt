@@ -1,0 +1,5 @@
+pub mod Model
+pub mod Stages
+pub mod Awaited
+pub mod Bounds
+pub mod Answers
