@@ -12,8 +12,8 @@ loop-job-preserved c =
     let slots = c.args.slots.now in
     let i = c.loop-job.job-index in
     elim c.if-job-task.branch [
-      | then-job-task w ↦ (let more = count_by_more_yes (of_task c.args.task) slots i no_job c.loop-job-test.true (eq-eqb _ _ w.if-job-task.true) in (omega (arith, w.count_is), omega (arith, w.count_is)))
-      | else-job-task w ↦ (let more = count_by_more_no (of_task c.args.task) slots i no_job c.loop-job-test.true (ne_eqb _ _ w.if-job-task.false) in (omega (arith, w.count_is), omega (arith, w.count_is)))
+      | then-job-task w ↦ (let more = count_by_more_yes (of_task c.args.task) slots i no_job c.loop-job-test.true (eq-eqb _ _ w.if-job-task.true) in (omega (arith, w.count-is), omega (arith, w.count-is)))
+      | else-job-task w ↦ (let more = count_by_more_no (of_task c.args.task) slots i no_job c.loop-job-test.true (ne_eqb _ _ w.if-job-task.false) in (omega (arith, w.count-is), omega (arith, w.count-is)))
     ]
 
 pub returns : goal.returns

@@ -23,11 +23,11 @@ module _ (l : Lane) (job : Job) (a : ℕ) (ys : List Job) (room : l.len < 4) (wi
   still : ordered before (take (l.len + 1) (put_mid a (l.len + 1 - a) (set l.jobs l.len job) ys)) ≡ take (l.len + 1) (put_mid a (l.len + 1 - a) (set l.jobs l.len job) ys)
   still = orderings.ordered_sorted before _ (subst (Sorted before) (sym then) (orderings.sorted_placed before before_one_way not_before_chain job (take l.len l.jobs) (orderings.sorted_from before before_one_way not_before_chain (take l.len l.jobs) l.sorted)))
 
-pub invariant-of-self : goal.invariant-of-self
-invariant-of-self c =
+pub invariant_of-self : goal.invariant_of-self
+invariant_of-self c =
     let l = c.args.self.now in
     let J = set l.jobs l.len c.args.job in
-    (same_len_mid c.place-at.result (l.len + 1 - c.place-at.result) J c.rotate-right.new.self c.rotate-right.ensures.len ∙ length-set l.jobs l.len c.args.job ∙ l.whole, (omega (arith, c.requires), (still l c.args.job c.place-at.result c.rotate-right.new.self c.requires c.place-at.ensures.within c.place-at.ensures.splits c.rotate-right.ensures.after, tt)))
+    record { whole = same_len_mid c.place-at.result (l.len + 1 - c.place-at.result) J c.rotate_right.new.self c.rotate_right.ensures.len ∙ length-set l.jobs l.len c.args.job ∙ l.whole; within = omega (arith, c.requires); sorted = still l c.args.job c.place-at.result c.rotate_right.new.self c.requires c.place-at.ensures.within c.place-at.ensures.splits c.rotate_right.ensures.after }
 
 pub returns : goal.returns
-returns c = record { jobs = then c.args.self.now c.args.job c.place-at.result c.rotate-right.new.self c.requires c.place-at.ensures.within c.place-at.ensures.splits c.rotate-right.ensures.after; len = refl }
+returns c = record { jobs = then c.args.self.now c.args.job c.place-at.result c.rotate_right.new.self c.requires c.place-at.ensures.within c.place-at.ensures.splits c.rotate_right.ensures.after; len = refl }

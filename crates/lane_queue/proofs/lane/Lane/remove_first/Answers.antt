@@ -17,12 +17,12 @@ module _ (l : Lane) (ys : List Job) (some : 0 < l.len) (after : ys ≡ drop 1 (t
   still : ordered before (take (l.len - 1) (ys ++ drop (l.len - 0) l.jobs)) ≡ take (l.len - 1) (ys ++ drop (l.len - 0) l.jobs)
   still = orderings.ordered_sorted before _ (subst (Sorted before) left (orderings.sorted_from before before_one_way not_before_chain (take l.len l.jobs) l.sorted)).1
 
-pub invariant-of-self : goal.invariant-of-self
-invariant-of-self c =
+pub invariant_of-self : goal.invariant_of-self
+invariant_of-self c =
     let l = c.args.self.now in
     let a = length-take-le (l.len - 0) l.jobs (omega (arith, l.whole, l.within)) in
     let b = length-drop (l.len - 0) l.jobs in
-    (length-append c.rotate-left.new.self _ ∙ omega (arith, a, b, c.rotate-left.ensures.len, l.whole, l.within), (omega (arith, l.within), (still l c.rotate-left.new.self c.requires c.rotate-left.ensures.after, tt)))
+    record { whole = length-append c.rotate_left.new.self _ ∙ omega (arith, a, b, c.rotate_left.ensures.len, l.whole, l.within); within = omega (arith, l.within); sorted = still l c.rotate_left.new.self c.requires c.rotate_left.ensures.after }
 
 pub returns : goal.returns
-returns c = record { jobs = left c.args.self.now c.rotate-left.new.self c.requires c.rotate-left.ensures.after; len = omega arith }
+returns c = record { jobs = left c.args.self.now c.rotate_left.new.self c.requires c.rotate_left.ensures.after; len = omega arith }

@@ -3,5 +3,5 @@ use Rattle.ready.specs.Waiting.{first_of}
 use Rattle.plain_queue.proofs.Ends.{reverse_take}
 use Rattle.plain_queue.proofs.operations.PlainQueueReadyQueue.first.Goals as goal
 
-pub returns-in-default : goal.returns-in-default
-returns-in-default c = let q = c.args.self.now in sym (ap first_of (reverse_take q.count q.slots _ (omega arith) (omega arith)))
+pub returns-in_default : goal.returns-in_default
+returns-in_default c = let q = c.args.self.now in sym (ap first_of (reverse_take q.count q.slots _ (omega arith) (omega arith)))

@@ -5,11 +5,11 @@ use Rattle.lane_queue.specs.Waiting.{waiting_jobs}
 use Rattle.lane_queue.proofs.Fresh as fresh
 use Rattle.lane_queue.proofs.queue.operations.LaneQueueReadyQueue.clear.Goals as goal
 
-pub invariant-of-self : goal.invariant-of-self
-invariant-of-self c =
+pub invariant_of-self : goal.invariant_of-self
+invariant_of-self c =
     let l = c.new-self.result in
     let e = c.new-self.ensures in
-    (refl, (fresh.fresh_marked l e 32, (sym (ap length (fresh.fresh_jobs l e 32)), (fresh.fresh_owned l e 32, (fresh.fresh_once l e 32, tt)))))
+    record { whole = refl; marked = fresh.fresh_marked l e 32; counted = sym (ap length (fresh.fresh_jobs l e 32)); owned = fresh.fresh_owned l e 32; once = fresh.fresh_once l e 32 }
 
 pub returns : goal.returns
 unfolding waiting_jobs

@@ -70,12 +70,12 @@ returns-then-lane-eq4 c =
     let e = answers.answers_four job (waiting_jobs q) (known_task job.task low high) none full in
     record { answer = sym e; list = sym (answers.put_refused job (waiting_jobs q) FourWait e) }
 
-pub overflow-add-self : goal.overflow-add-self
-overflow-add-self c = let q = c.args.self.now in omega (arith, lawful_most _ (lawful_lanes q), orderings.length_ordered before (flat_map lane_jobs q.lanes), q.counted)
+pub overflow_add-self : goal.overflow_add-self
+overflow_add-self c = let q = c.args.self.now in omega (arith, lawful_most _ (lawful_lanes q), orderings.length_ordered before (flat_map lane_jobs q.lanes), q.counted)
 
-pub invariant-of-self : goal.invariant-of-self
+pub invariant_of-self : goal.invariant_of-self
 unfolding waiting_jobs
-invariant-of-self c =
+invariant_of-self c =
     let q = c.args.self.now in
     let ls = q.lanes in
     let job = c.args.job in
@@ -90,7 +90,7 @@ invariant-of-self c =
     let jobs_are : lane_jobs m ≡ placed before job (lane_jobs (get_or ls i empty)) = c.insert.ensures.jobs ∙ ap (λ (k : Lane). placed before job (lane_jobs k)) same in
     let len_is : m.len ≡ (get_or ls i empty).len + 1 = c.insert.ensures.len ∙ ap (λ (k : Lane). k.len + 1) same in
     let n = puts.put_length ls q.owned i m job l t jobs_are len_is in
-    (length-set ls i m ∙ q.whole, (puts.put_marked ls q.owned i m job l t jobs_are len_is q.used c.with-bit-self.result q.marked (λ k. ap (bit k) c.with-bit-self.ensures ∙ bit_with q.used i (omega (arith, q.whole)) k), (ap (λ k. k + 1) q.counted ∙ sym n, (puts.put_owned ls q.owned i m job l t jobs_are len_is, (puts.put_once ls q.owned i m job l t jobs_are len_is (free q job d low high c.if-has.ensures c.if-lane-eq4.false) (lawful_lanes q).once, tt)))))
+    record { whole = length-set ls i m ∙ q.whole; marked = puts.put_marked ls q.owned i m job l t jobs_are len_is q.used c.with_bit-self.result q.marked (λ k. ap (bit k) c.with_bit-self.ensures ∙ bit_with q.used i (omega (arith, q.whole)) k); counted = ap (λ k. k + 1) q.counted ∙ sym n; owned = puts.put_owned ls q.owned i m job l t jobs_are len_is; once = puts.put_once ls q.owned i m job l t jobs_are len_is (free q job d low high c.if-has.ensures c.if-lane-eq4.false) (lawful_lanes q).once }
 
 pub returns : goal.returns
 unfolding waiting_jobs
