@@ -7,7 +7,7 @@ use Rattle.std.proofs.lemmas.Bool.{cond-true, le-leb}
 use Rattle.std.proofs.lemmas.List.{length-set, length-take-le, get_or-set_same, get_or-set_other, get_or-take, take_more_set, take_at, drop_at, drop-set-lt, same_lists, get_or_read}
 use Rattle.std.proofs.lemmas.List.Sorted.{IsPermutation-trans, IsPermutation-sym, IsPermutation-to_front, IsPermutation-cons}
 use Rattle.std.proofs.ByRecursion.{All-from_get_or}
-use Rattle.std.proofs.Permutation.{taken-first, which}
+use Rattle.std.proofs.Permutation.{taken_at, which}
 use Rattle.ready.specs.Waiting.{first_of}
 use Rattle.heap.specs.Heaps.{Heaped, Added, Removed, remove_answer}
 use Rattle.heap.specs.Sifts.{Rising, Sinking}
@@ -116,7 +116,7 @@ module _ {X : Type 0} (fields : X → List ℕ) (ahead : X → X → Bool) (o : 
         let L = ys ++ drop m (set xs 0 l) in
         let t : take (n - 1) L ≡ ys = take_at ys _ (n - 1) (e ∙ less) in
         let w = whole in
-        let all : IsPermutation (take n xs) (f ∷ take (n - 1) L) = subst (λ k. IsPermutation (take n xs) (f ∷ k)) (sym t) (IsPermutation-trans (take n xs) (f ∷ take m (set xs 0 l)) (f ∷ ys) (subst (λ k. IsPermutation (take n xs) (f ∷ k)) same (taken-first (take n xs) f (omega arith) first_is)) (IsPermutation-cons f _ ys s)) in
+        let all : IsPermutation (take n xs) (f ∷ take (n - 1) L) = subst (λ k. IsPermutation (take n xs) (f ∷ k)) (sym t) (IsPermutation-trans (take n xs) (f ∷ take m (set xs 0 l)) (f ∷ ys) (subst (λ k. IsPermutation (take n xs) (f ∷ k)) same (taken_at (take n xs) 0 f (omega arith) first_is)) (IsPermutation-cons f _ ys s)) in
         record {
           entries = all;
           heap = λ old. subst (Heaped ahead) (sym t) (h (shrinks old));

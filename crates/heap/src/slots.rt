@@ -18,7 +18,7 @@ pub enum HeapRefusal {
 // Whether the entry at `a` comes before the entry at `b`.
 fn comes_before<T: HeapEntry>(heap: &[T], a: usize, b: usize) -> bool
     requires { (a < length heap.now) × (b < length heap.now) }
-    ensures { (d : T) → result ≡ ahead (slice_index_or heap.now a d) (slice_index_or heap.now b d) }
+    ensures { (d : T) → result ≡ T.ahead (slice_index_or heap.now a d) (slice_index_or heap.now b d) }
 {
     heap[a].before(&heap[b])
 }
@@ -26,7 +26,7 @@ fn comes_before<T: HeapEntry>(heap: &[T], a: usize, b: usize) -> bool
 // Lets the last entry rise to its place.
 fn sift_up<T: HeapEntry>(heap: &mut [T])
     requires { 0 < length heap.old }
-    ensures heaped { Rising ahead heap.old (length heap.old - 1) → Heaped ahead heap.new }
+    ensures heaped { Rising T.ahead heap.old (length heap.old - 1) → Heaped T.ahead heap.new }
     ensures shuffled { IsPermutation heap.old heap.new }
 {
     let mut at = heap.len() - 1;
@@ -40,7 +40,7 @@ fn sift_up<T: HeapEntry>(heap: &mut [T])
 fn first_child<T: HeapEntry>(heap: &[T], at: usize) -> usize
     requires { at < length heap.now / 2 }
     ensures bound { (0 < result) × (result < length heap.now) × ((result - 1) / 2 ≡ at) }
-    ensures least { Least ahead heap.now at result }
+    ensures least { Least T.ahead heap.now at result }
 {
     let left = at * 2 + 1;
     let right = left + 1;
@@ -53,7 +53,7 @@ fn first_child<T: HeapEntry>(heap: &[T], at: usize) -> usize
 
 // Lets the first entry sink to its place.
 fn sift_down<T: HeapEntry>(heap: &mut [T])
-    ensures heaped { Sinking ahead heap.old 0 → Heaped ahead heap.new }
+    ensures heaped { Sinking T.ahead heap.old 0 → Heaped T.ahead heap.new }
     ensures shuffled { IsPermutation heap.old heap.new }
 {
     let mut at = 0;
@@ -69,8 +69,8 @@ fn sift_down<T: HeapEntry>(heap: &mut [T])
 
 // Adds an entry to the heap in the first `len` slots, which then is in the first `len + 1`.
 pub fn add<T: HeapEntry>(slots: &mut [T], len: usize, x: T) -> Result<(), HeapRefusal>
-    ensures answer { result ≡ add_answer room (length slots.old) len }
-    ensures after { MatchResult result (λ _. Added fields ahead x len slots.old slots.new) (λ _. slots.new ≡ slots.old) }
+    ensures answer { result ≡ add_answer T.room (length slots.old) len }
+    ensures after { MatchResult result (λ _. Added T.fields T.ahead x len slots.old slots.new) (λ _. slots.new ≡ slots.old) }
 {
     if len >= T::limit() || len >= slots.len() {
         return Err(HeapRefusal::Full);
@@ -83,7 +83,7 @@ pub fn add<T: HeapEntry>(slots: &mut [T], len: usize, x: T) -> Result<(), HeapRe
 // Takes the first entry out of the heap in the first `len` slots, which then is in the first `len - 1`.
 pub fn remove<T: HeapEntry>(slots: &mut [T], len: usize) -> Option<T>
     ensures answer { result ≡ remove_answer len slots.old }
-    ensures after { MatchOption result (slots.new ≡ slots.old) (λ x. Removed fields ahead x len slots.old slots.new) }
+    ensures after { MatchOption result (slots.new ≡ slots.old) (λ x. Removed T.fields T.ahead x len slots.old slots.new) }
 {
     if len == 0 || len > slots.len() {
         return None;

@@ -9,9 +9,9 @@ pub returns : goal.returns
 returns g c =
     let e = g.T.HeapEntry in
     let m = g.met.T.HeapEntry in
-    let told = c.sift-up.ensures in
+    let told = c.sift_up.ensures in
     record {
       answer = grind (arith, nat_tests);
       after = grown e.fields e.ahead (lawful e.fields e.ahead m.one m.neither m.chain) (alike e.fields e.ahead m.one m.neither m.chain)
-          c.args.slots.now c.args.len (c.args.len + 1 - 0) c.args.x (omega arith) (omega arith) c.sift-up.new.heap told.heaped told.shuffled (length_permutation _ _ told.shuffled);
+          c.args.slots.now c.args.len (c.args.len + 1 - 0) c.args.x (omega arith) (omega arith) c.sift_up.new.heap told.heaped told.shuffled (length_permutation _ _ told.shuffled);
     }

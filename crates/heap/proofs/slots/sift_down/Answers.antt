@@ -13,20 +13,20 @@ loop-at-preserved g c =
     let m = g.met.T.HeapEntry in
     let l = c.loop-at in
     let told = c.swap.ensures in
-    let best = c.first-child-child.ensures in (
+    let best = c.first_child-child.ensures in (
       omega arith,
-      λ h. sifting.sinks e.ahead (lawful e.fields e.ahead m.one m.neither m.chain) l.heap c.swap.new.self told.len l.at c.first-child-child.result best.bound.0 best.bound.1 best.bound.2 (told.by_index.0, told.by_index.1, told.by_index.2) (λ d. sym (c.if-not-comes-before.ensures d)) best.least (l.invariant.1 h),
+      λ h. sifting.sinks e.ahead (lawful e.fields e.ahead m.one m.neither m.chain) l.heap c.swap.new.self told.len l.at c.first_child-child.result best.bound.0 best.bound.1 best.bound.2 (told.by_index.0, told.by_index.1, told.by_index.2) (λ d. sym (c.if-not-comes_before.ensures d)) best.least (l.invariant.1 h),
       IsPermutation-trans c.args.heap.now l.heap c.swap.new.self l.invariant.2 told.permutation,
     )
 
-pub returns-then-not-comes-before : goal.returns-then-not-comes-before
-returns-then-not-comes-before g c =
+pub returns-then-not-comes_before : goal.returns-then-not-comes_before
+returns-then-not-comes_before g c =
     let e = g.T.HeapEntry in
     let m = g.met.T.HeapEntry in
     let l = c.loop-at in
-    let best = c.first-child-child.ensures in
+    let best = c.first_child-child.ensures in
     record {
-      heaped = λ h. sifting.rests e.ahead (lawful e.fields e.ahead m.one m.neither m.chain) l.heap l.at c.first-child-child.result (λ d. sym (c.if-not-comes-before.ensures d)) best.least (l.invariant.1 h);
+      heaped = λ h. sifting.rests e.ahead (lawful e.fields e.ahead m.one m.neither m.chain) l.heap l.at c.first_child-child.result (λ d. sym (c.if-not-comes_before.ensures d)) best.least (l.invariant.1 h);
       shuffled = l.invariant.2;
     }
 

@@ -13,9 +13,9 @@ returns-then-bytes-ne0 c =
     let unclosed : closed c.args.bytes.now ≡ false = grind (arith, nat_tests) in
     sym (cond-false _ _ _ unclosed)
 
-pub broken-rule-requires : goal.broken-rule-requires
-broken-rule-requires c =
-    subst (λ r. r.period ≤ cycle) (sym c.row-in-row.ensures) (named_within (two_at c.args.bytes.now 24))
+pub broken_rule-requires : goal.broken_rule-requires
+broken_rule-requires c =
+    subst (λ r. r.period ≤ cycle) (sym c.row_in-row.ensures) (named_within (two_at c.args.bytes.now 24))
 
 pub returns-in-Some : goal.returns-in-Some
 unfolding read_row

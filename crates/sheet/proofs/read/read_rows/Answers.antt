@@ -9,12 +9,12 @@ use Rattle.sheet.proofs.read.read_rows.Goals as goal
 pub loop-k-init : goal.loop-k-init
 loop-k-init c = (refl, (λ j h. blank_at 32 j), ahead_none c.args.count c.args.bytes.now)
 
-pub returns-in-err-row : goal.returns-in-err-row
-returns-in-err-row c =
-    let p = err_from_is_err_and c.from-residual.result c.from-residual.ensures.1 in
+pub returns-in_err-row : goal.returns-in_err-row
+returns-in_err-row c =
+    let p = err_from_is_err_and c.from_residual.result c.from_residual.ensures.1 in
     let bytes = c.args.bytes.now in
     let said : read_row (c.loop-k.k + 1) c.loop-k.before (drop (28 * c.loop-k.k) bytes) ≡ Err p.0
-    = let cut = take_rest bytes (28 * c.loop-k.k) in cc (p.2, c.in-err-row.ensures) in
+    = let cut = take_rest bytes (28 * c.loop-k.k) in cc (p.2, c.in_err-row.ensures) in
     subst (Fills c.args.count (read_rows c.args.count 1 0 bytes)) (sym p.1)
     (row_fails _ _ _ _ _ _ (omega arith) c.loop-k.invariant.2 _ said)
 
@@ -22,9 +22,9 @@ pub loop-k-preserved : goal.loop-k-preserved
 loop-k-preserved c =
     let k = c.loop-k.k in
     let bytes = c.args.bytes.now in
-    let row = c.in-ok-row.row in
+    let row = c.in_ok-row.row in
     let inside : k < length c.loop-k.slots = omega (arith, c.loop-k.invariant.0) in
-    let said = row_cut (k + 1) c.loop-k.before bytes (28 * k) c.in-ok-row.ensures in
+    let said = row_cut (k + 1) c.loop-k.before bytes (28 * k) c.in_ok-row.ensures in
     let further : 28 * k + 28 ≡ 28 * (k + 1) = omega arith in
     let rest : drop 28 (drop (28 * k) bytes) ≡ drop (28 * (k + 1)) bytes = drop-drop 28 (28 * k) bytes ∙ ap (λ n. drop n bytes) further in (
       length-set _ _ _ ∙ c.loop-k.invariant.0,

@@ -7,5 +7,5 @@ pub returns : goal.returns
 returns c =
     let bytes = c.args.bytes.now in
     let e : length bytes ≡ c.args.at + length bytes - c.args.at = omega arith in
-    put_mid-paste c.args.at (c.args.at + length bytes - c.args.at) c.args.out.now _ bytes (length bytes) c.copy-from-slice.ensures.after e refl
+    put_mid-paste c.args.at (c.args.at + length bytes - c.args.at) c.args.out.now _ bytes (length bytes) c.copy_from_slice.ensures.after e refl
     ∙ paste_all c.args.out.now c.args.at bytes (length bytes) refl

@@ -23,8 +23,8 @@ unfolding header_bytes
 returns c =
     let old = c.args.out.now in
     let n = c.args.count in
-    let one : c.copy-at.new.out ≡ put old 0 (counted n) = c.copy-at.ensures ∙ ap (put old 0) c.to-be-bytes.ensures in
-    let two : c.copy-at-2.new.out ≡ put old 0 (placed n) = put_field old 0 (counted n) (omega arith) one refl c.copy-at-2.ensures c.to-be-bytes-2.ensures in
-    let three : c.copy-at-3.new.out ≡ put old 0 (unhandled n) = put_field old 0 (placed n) {field = 0 ∷ 0 ∷ 0 ∷ 0 ∷ []} (omega arith) two refl c.copy-at-3.ensures refl in
-    let four : c.copy-at-4.new.out ≡ put old 0 (cycled n) = put_field old 0 (unhandled n) (omega arith) three refl c.copy-at-4.ensures c.to-be-bytes-3.ensures in
-    put_field old 0 (cycled n) (omega arith) four refl c.copy-at-5.ensures (c.to-be-bytes-4.ensures ∙ ap four_bytes c.sheet_size.ensures)
+    let one : c.copy_at.new.out ≡ put old 0 (counted n) = c.copy_at.ensures ∙ ap (put old 0) c.to_be_bytes.ensures in
+    let two : c.copy_at-2.new.out ≡ put old 0 (placed n) = put_field old 0 (counted n) (omega arith) one refl c.copy_at-2.ensures c.to_be_bytes-2.ensures in
+    let three : c.copy_at-3.new.out ≡ put old 0 (unhandled n) = put_field old 0 (placed n) {field = 0 ∷ 0 ∷ 0 ∷ 0 ∷ []} (omega arith) two refl c.copy_at-3.ensures refl in
+    let four : c.copy_at-4.new.out ≡ put old 0 (cycled n) = put_field old 0 (unhandled n) (omega arith) three refl c.copy_at-4.ensures c.to_be_bytes-3.ensures in
+    put_field old 0 (cycled n) (omega arith) four refl c.copy_at-5.ensures (c.to_be_bytes-4.ensures ∙ ap four_bytes c.sheet_size.ensures)

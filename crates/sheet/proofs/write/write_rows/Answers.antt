@@ -8,7 +8,7 @@ use Rattle.sheet.proofs.write.write_rows.Goals as goal
 pub loop-row-preserved : goal.loop-row-preserved
 loop-row-preserved c = (
   omega (arith, c.loop-row.invariant.0),
-  ap (λ o. put o (c.loop-row.at + 28) (rows_bytes (drop (c.loop-row.row-index + 1) c.args.rows.now))) c.write-row.ensures
+  ap (λ o. put o (c.loop-row.at + 28) (rows_bytes (drop (c.loop-row.row-index + 1) c.args.rows.now))) c.write_row.ensures
       ∙ put_row c.loop-row.out c.loop-row.at c.args.rows.now c.loop-row.row-index _ (omega arith) (omega (arith, c.loop-row.invariant.0, c.loop-row.auto.out))
       ∙ c.loop-row.invariant.1,
 )

@@ -11,7 +11,7 @@ pub returns : goal.returns
 unfolding coming
 returns c =
     let h = c.args.self.now in
-    let told = c.in-ok-add.ensures in
+    let told = c.in_ok-add.ensures in
     let rs = ordered earlier (take h.len h.slots) in
     let answer = told.answer ∙ same_answer h.slots h.len h.whole h.within in
     record {
@@ -19,15 +19,15 @@ returns c =
       list = told.after.list (releases_distinct (c.args.release ∷ take h.len h.slots)) ∙ list_taken c.args.release rs (leb 32 (length rs)) answer;
     }
 
-pub returns-in-err-add : goal.returns-in-err-add
+pub returns-in_err-add : goal.returns-in_err-add
 unfolding coming
-returns-in-err-add c =
+returns-in_err-add c =
     let h = c.args.self.now in
-    let told = c.in-err-add.ensures in
+    let told = c.in_err-add.ensures in
     let rs = ordered earlier (take h.len h.slots) in
     let answer = told.answer ∙ same_answer h.slots h.len h.whole h.within in
-    let p = err_from_is_err_and c.from-residual.result c.from-residual.ensures.1 in
+    let p = err_from_is_err_and c.from_residual.result c.from_residual.ensures.1 in
     record {
       answer = p.1 ∙ rw p.2 answer;
-      list = ap (λ l. ordered earlier (take h.len l)) told.after ∙ list_refused c.args.release rs c.in-err-add.field-0.0 (leb 32 (length rs)) answer;
+      list = ap (λ l. ordered earlier (take h.len l)) told.after ∙ list_refused c.args.release rs c.in_err-add.field-0.0 (leb 32 (length rs)) answer;
     }
