@@ -14,8 +14,8 @@ loop-job-preserved c =
     let t = c.args.task in
     let in' = c.loop-job-test.true in
     elim c.if-job-task.branch [
-      | then-job-task w ↦ (omega (arith, w.count_is), omega (arith, w.count_is, count_by_more_yes (of_task t) xs l.job-index no_job in' (eq-eqb _ _ w.if-job-task.true), l.invariant.1))
-      | else-job-task w ↦ (omega (arith, w.count_is), omega (arith, w.count_is, count_by_more_no (of_task t) xs l.job-index no_job in' (ne_eqb _ _ w.if-job-task.false), l.invariant.1))
+      | then-job-task w ↦ (omega (arith, w.count-is), omega (arith, w.count-is, count_by_more_yes (of_task t) xs l.job-index no_job in' (eq-eqb _ _ w.if-job-task.true), l.invariant.1))
+      | else-job-task w ↦ (omega (arith, w.count-is), omega (arith, w.count-is, count_by_more_no (of_task t) xs l.job-index no_job in' (ne_eqb _ _ w.if-job-task.false), l.invariant.1))
     ]
 
 pub returns : goal.returns

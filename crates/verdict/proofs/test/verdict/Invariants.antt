@@ -5,6 +5,6 @@ use Rattle.verdict.proofs.test.verdict.Given as goal
 -- the sums are those of the rows so far, and the rows still to come decide
 abbrev pub invariant-loop-i : goal.invariant-loop-i
 invariant-loop-i l =
-    (l.sum-load ≡ load_to l.i l.rows) ×
-    (l.sum-shortfall ≡ shortfall_to l.i l.rows) ×
+    (l.sum_load ≡ load_to l.i l.rows) ×
+    (l.sum_shortfall ≡ shortfall_to l.i l.rows) ×
     (verdict_of l.rows ≡ first_failing (length l.rows - l.i) (l.i + 1) l.rows)

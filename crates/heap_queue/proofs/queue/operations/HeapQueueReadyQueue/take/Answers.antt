@@ -7,47 +7,29 @@ use Rattle.heap_queue.specs.Waiting.{waiting_jobs}
 use Rattle.heap_queue.specs.Waits.{distinct, fewer}
 use Rattle.heap_queue.proofs.queue.operations.HeapQueueReadyQueue.take.Goals as goal
 
-pub invariant-of-self-2 : goal.invariant-of-self-2
-invariant-of-self-2 c =
+pub invariant_of-self-2 : goal.invariant_of-self-2
+invariant_of-self-2 c =
     let q = c.args.self.now in
-    let job = c.in-ok-job.job in
-    let after = c.in-ok-job.ensures.after in
+    let job = c.in_ok-job.job in
+    let after = c.in_ok-job.ensures.after in
     let xs = take q.len q.slots in
-    let ys = take (q.len - 1) c.remove.new.slots in (
-      search rules,
-      (
-        omega (arith, q.within),
-        (
-          after.heap q.heaped,
-          (
-            omega (arith, fewer (λ j. stray j.task) job xs ys after.entries, q.known),
-            (
-              (λ task number. omega (arith, fewer (is_job task number) job xs ys after.entries, q.once task number)),
-              (
-                (λ task. omega (arith, fewer (of_task task) job xs ys after.entries, q.four task)),
-                tt,
-              ),
-            ),
-          ),
-        ),
-      ),
-    )
+    let ys = take (q.len - 1) c.remove.new.slots in record { whole = search rules; within = omega (arith, q.within); heaped = after.heap q.heaped; known = omega (arith, fewer (λ j. stray j.task) job xs ys after.entries, q.known); once = (λ task number. omega (arith, fewer (is_job task number) job xs ys after.entries, q.once task number)); four = (λ task. omega (arith, fewer (of_task task) job xs ys after.entries, q.four task)) }
 
 pub returns : goal.returns
 unfolding waiting_jobs
 returns c =
     let q = c.args.self.now in
-    let after = c.in-ok-job.ensures.after in
+    let after = c.in_ok-job.ensures.after in
     let list = after.list q.heaped (distinct (take q.len q.slots) q.once) in
     record { answer = sym (ap first_of list); list = sym (ap rest_of list) }
 
-pub returns-in-err-job : goal.returns-in-err-job
+pub returns-in_err-job : goal.returns-in_err-job
 unfolding waiting_jobs
-returns-in-err-job c =
+returns-in_err-job c =
     let q = c.args.self.now in
-    let told = c.in-err-job.ensures in
+    let told = c.in_err-job.ensures in
     let none = ap (ordered before) (no_slot q.len q.slots (omega (arith, q.whole, q.within)) told.answer) in
     record {
-      answer = c.from-residual.ensures ∙ sym (ap first_of none);
+      answer = c.from_residual.ensures ∙ sym (ap first_of none);
       list = ap (λ l. ordered before (take q.len l)) told.after ∙ none ∙ sym (ap rest_of none);
     }
