@@ -55,7 +55,8 @@ def imported(text, crates):
     names = set(GOAL.findall(text))
     for path, items in USE.findall(text):
         step = path.split(".")
-        own = step[0] == "Rattle" and step[1] in crates and not re.search(r"\.(Goals|Given)$", path)
+        made = len(step) > 4 and step[-1] in ("Goals", "Given")
+        own = step[0] == "Rattle" and step[1] in crates and not made
         if not own:
             for item in items.split(","):
                 names.update(part.strip() for part in item.split(" as "))

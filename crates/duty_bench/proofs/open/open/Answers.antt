@@ -6,8 +6,8 @@ use Rattle.duty_bench.proofs.FirstReleases.{opened_ahead}
 use Rattle.duty_bench.proofs.Openings.{counted_none, take_none}
 use Rattle.duty_bench.proofs.open.open.Goals as goal
 
-pub invariant-of-result : goal.invariant-of-result
-invariant-of-result g c = (refl, (lit≤ tt, (refl, (counted_none 32, (c.first-releases-coming.ensures, (opened_ahead (judged_rows c.args.judged) (replicate 32 no_counts), (lit≤ tt, (lit≤ tt, (lit≤ tt, tt)))))))))
+pub invariant_of-result : goal.invariant_of-result
+invariant_of-result g c = (refl, (lit≤ tt, (refl, (counted_none 32, (c.first_releases-coming.ensures, (opened_ahead (judged_rows c.args.judged) (replicate 32 no_counts), (lit≤ tt, (lit≤ tt, (lit≤ tt, tt)))))))))
 
 pub returns : goal.returns
 returns g c = record {

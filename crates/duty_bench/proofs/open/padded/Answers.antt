@@ -7,5 +7,5 @@ pub returns : goal.returns
 returns c =
     let n = length c.args.tasks.now in
     let past : n - 0 ≡ n = omega arith in
-    (λ i. c.copy-from-slice.ensures.after i ++ drop (past i) (replicate 32 no_counts))
+    (λ i. c.copy_from_slice.ensures.after i ++ drop (past i) (replicate 32 no_counts))
     ∙ ap (λ zs. c.args.tasks.now ++ zs) (drop-replicate n 32 no_counts)

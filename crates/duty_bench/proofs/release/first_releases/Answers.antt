@@ -8,11 +8,11 @@ use Rattle.duty_bench.proofs.Openings.{rows_few}
 use Rattle.duty_bench.proofs.FirstReleases.{opened_more, opened_all}
 use Rattle.duty_bench.proofs.release.first_releases.Goals as goal
 
-pub overflow-add-i : goal.overflow-add-i
-overflow-add-i c = omega (arith, rows_few c.args.judged.now, ap length c.rows-rows.ensures)
+pub overflow_add-i : goal.overflow_add-i
+overflow_add-i c = omega (arith, rows_few c.args.judged.now, ap length c.rows-rows.ensures)
 
-pub overflow-cast-i : goal.overflow-cast-i
-overflow-cast-i c = omega (arith, rows_few c.args.judged.now, ap length c.rows-rows.ensures)
+pub overflow_cast-i : goal.overflow_cast-i
+overflow_cast-i c = omega (arith, rows_few c.args.judged.now, ap length c.rows-rows.ensures)
 
 pub loop-i-preserved : goal.loop-i-preserved
 loop-i-preserved c =

@@ -1,5 +1,5 @@
-use Rattle.rules.proofs.Given.{every-at-most, given-exactly}
+use Rattle.rules.proofs.Given.{every_at_most, given_exactly}
 use Rattle.rules.proofs.theorems.jobs_get_their_units.Goals as goal
 
 pub returns : goal.returns
-returns c = record { atMost = every-at-most; exactly = given-exactly }
+returns c = record { atMost = every_at_most; exactly = given_exactly }

@@ -5,8 +5,8 @@ use Rattle.duty_bench.specs.Model.{model, judged_rows}
 use Rattle.duty_bench.proofs.Calls.{next_letter}
 use Rattle.duty_bench.proofs.bench.Bench.feed.Goals as goal
 
-pub returns-in-err-print : goal.returns-in-err-print
-returns-in-err-print g c =
+pub returns-in_err-print : goal.returns-in_err-print
+returns-in_err-print g c =
     let w = g.Q.ReadyQueue.waiting in
     record {
       state = (

@@ -19,8 +19,8 @@ loop-task-preserved g c = (
 pub returns : goal.returns
 returns g c = record {
   is =
-      none_left c.loop-task.self c.loop-task.invariant.1 (sym c.in-default.ensures) g.Q.ReadyQueue.waiting c.args.self.now.judged c.loop-task.invariant.2
+      none_left c.loop-task.self c.loop-task.invariant.1 (sym c.in_default.ensures) g.Q.ReadyQueue.waiting c.args.self.now.judged c.loop-task.invariant.2
       ∙ c.loop-task.invariant.0;
-  midway = all_out c.loop-task.self c.loop-task.invariant.1 (sym c.in-default.ensures);
+  midway = all_out c.loop-task.self c.loop-task.invariant.1 (sym c.in_default.ensures);
   judged = c.loop-task.invariant.2;
 }

@@ -5,10 +5,10 @@ use Rattle.duty_bench.proofs.parts.Parts.row.Goals as goal
 
 pub returns-then-at-rows : goal.returns-then-at-rows
 returns-then-at-rows g c =
-    get_or_default c.rows-rows.result.now c.saturating-sub-at.result _ blank (omega arith)
-    ∙ (λ i. get_or (c.rows-rows.ensures i) (c.saturating-sub-at.ensures i) blank)
+    get_or_default c.rows-rows.result.now c.saturating_sub-at.result _ blank (omega arith)
+    ∙ (λ i. get_or (c.rows-rows.ensures i) (c.saturating_sub-at.ensures i) blank)
 
 pub returns-else-at-rows : goal.returns-else-at-rows
 returns-else-at-rows g c =
-    sym (get_or_past c.rows-rows.result.now c.saturating-sub-at.result blank (omega arith))
-    ∙ (λ i. get_or (c.rows-rows.ensures i) (c.saturating-sub-at.ensures i) blank)
+    sym (get_or_past c.rows-rows.result.now c.saturating_sub-at.result blank (omega arith))
+    ∙ (λ i. get_or (c.rows-rows.ensures i) (c.saturating_sub-at.ensures i) blank)
