@@ -13,8 +13,8 @@ use ready::queue::ReadyQueue;
 impl<Q: ReadyQueue> Parts<Q> {
     pub(crate) fn tick(&mut self, letter: char) -> Outcome
         requires { Midway 1 0 self.old }
-        ensures is { model waiting self.new ≡ (ticked (judged_rows self.old.judged) (asked letter) (model waiting self.old)).state }
-        ensures outcome { result ≡ (ticked (judged_rows self.old.judged) (asked letter) (model waiting self.old)).outcome }
+        ensures is { model Q.waiting self.new ≡ (ticked (judged_rows self.old.judged) (asked letter) (model Q.waiting self.old)).state }
+        ensures outcome { result ≡ (ticked (judged_rows self.old.judged) (asked letter) (model Q.waiting self.old)).outcome }
         ensures settled { Settled self.new }
         ensures judged { self.new.judged ≡ self.old.judged }
     {
@@ -30,8 +30,8 @@ impl<Q: ReadyQueue> Parts<Q> {
     // The due releases, and then a tick.
     pub(crate) fn advance(&mut self, letter: char) -> Outcome
         requires { Midway 0 0 self.old }
-        ensures is { model waiting self.new ≡ (ticked (judged_rows self.old.judged) (asked letter) (all-released (judged_rows self.old.judged) (model waiting self.old))).state }
-        ensures outcome { result ≡ (ticked (judged_rows self.old.judged) (asked letter) (all-released (judged_rows self.old.judged) (model waiting self.old))).outcome }
+        ensures is { model Q.waiting self.new ≡ (ticked (judged_rows self.old.judged) (asked letter) (all-released (judged_rows self.old.judged) (model Q.waiting self.old))).state }
+        ensures outcome { result ≡ (ticked (judged_rows self.old.judged) (asked letter) (all-released (judged_rows self.old.judged) (model Q.waiting self.old))).outcome }
         ensures settled { Settled self.new }
         ensures judged { self.new.judged ≡ self.old.judged }
     {

@@ -12,21 +12,21 @@ use rules::refusal::QuestionRefusal;
 impl<Q: ReadyQueue> Bench<Q> {
     // The ticks since the opening.
     pub fn clock(&self) -> u32
-        ensures { result ≡ (model waiting self.now.parts).clock }
+        ensures { result ≡ (model Q.waiting self.now.parts).clock }
     {
         self.parts.clock
     }
 
     // Idle ticks, jobs begun, interruptions.
     pub fn counts(&self) -> Counts
-        ensures { result ≡ (model waiting self.now.parts).counts }
+        ensures { result ≡ (model Q.waiting self.now.parts).counts }
     {
         self.parts.counts
     }
 
     // The counts of one task, or a refusal where the task is 0 or beyond the rows.
     pub fn task_counts(&self, task: u32) -> Result<TaskCounts, QuestionRefusal>
-        ensures { result ≡ task_answer (judged_rows self.now.parts.judged) task (model waiting self.now.parts) }
+        ensures { result ≡ task_answer (judged_rows self.now.parts.judged) task (model Q.waiting self.now.parts) }
     {
         if task == 0 || task as usize > self.parts.judged.rows().len() {
             return Err(QuestionRefusal::NoSuchTask);
@@ -36,7 +36,7 @@ impl<Q: ReadyQueue> Bench<Q> {
 
     // The first job that waits in the queue, if any; a job in the hand does not wait.
     pub fn first_waiting(&self) -> Option<Job>
-        ensures { result ≡ first_answer (model waiting self.now.parts) }
+        ensures { result ≡ first_answer (model Q.waiting self.now.parts) }
     {
         self.parts.queue.first()
     }

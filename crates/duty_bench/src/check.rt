@@ -47,7 +47,7 @@ impl Stage {
 impl<Q: ReadyQueue> Parts<Q> {
     // The most urgent job among hand and queue.
     fn most_urgent(&self) -> Option<Job>
-        ensures { result ≡ most_urgent (hand_of self.now.stage) (waiting self.now.queue) }
+        ensures { result ≡ most_urgent (hand_of self.now.stage) (Q.waiting self.now.queue) }
     {
         let first = self.queue.first();
         match self.stage.hand() {
@@ -60,8 +60,8 @@ impl<Q: ReadyQueue> Parts<Q> {
     pub(crate) fn check(&mut self) -> Option<Miss>
         requires settled { Settled self.old }
         requires running { running_stage self.old.stage ≡ true }
-        ensures is { model waiting self.new ≡ checked (model waiting self.old) }
-        ensures line { result ≡ miss_line (missed (model waiting self.old)) }
+        ensures is { model Q.waiting self.new ≡ checked (model Q.waiting self.old) }
+        ensures line { result ≡ miss_line (missed (model Q.waiting self.old)) }
         ensures settled { Settled self.new }
         ensures judged { self.new.judged ≡ self.old.judged }
     {

@@ -21,7 +21,7 @@ const NO_COUNTS: TaskCounts = TaskCounts {
 
 // Opens a bench at clock 0 on a judged table, over a queue that is cleared first. It never refuses.
 pub fn open<Q: ReadyQueue>(judged: Judged, mut queue: Q) -> Bench<Q>
-    ensures state { model waiting result.parts ≡ opened (judged_rows judged) }
+    ensures state { model Q.waiting result.parts ≡ opened (judged_rows judged) }
     ensures judged { result.parts.judged ≡ judged }
 {
     queue.clear();
@@ -56,7 +56,7 @@ fn padded(tasks: &[TaskCounts]) -> [TaskCounts; 32]
 impl<Q: ReadyQueue> Bench<Q> {
     // Closes the bench: it is used up, and its counts, each task's counts, its clock and the miss, if any, come out.
     pub fn close(self) -> Closing
-        ensures { result ≡ closing_of (model waiting self.parts) }
+        ensures { result ≡ closing_of (model Q.waiting self.parts) }
     {
         let Bench { parts } = self;
         let Parts {

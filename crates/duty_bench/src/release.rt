@@ -61,7 +61,7 @@ impl<Q: ReadyQueue> Parts<Q> {
     fn release(&mut self, task: u32)
         requires midway { Midway 0 0 self.old }
         requires due { first_due self.old.clock self.old.coming ≡ Some task }
-        ensures is { model waiting self.new ≡ one-release (judged_rows self.old.judged) task (model waiting self.old) }
+        ensures is { model Q.waiting self.new ≡ one-release (judged_rows self.old.judged) task (model Q.waiting self.old) }
         ensures midway { Midway 0 0 self.new }
         ensures judged { self.new.judged ≡ self.old.judged }
     {
@@ -83,7 +83,7 @@ impl<Q: ReadyQueue> Parts<Q> {
     // Releases every job whose release is now, in task order.
     pub(crate) fn release_due(&mut self)
         requires { Midway 0 0 self.old }
-        ensures is { model waiting self.new ≡ all-released (judged_rows self.old.judged) (model waiting self.old) }
+        ensures is { model Q.waiting self.new ≡ all-released (judged_rows self.old.judged) (model Q.waiting self.old) }
         ensures midway { Midway 1 0 self.new }
         ensures judged { self.new.judged ≡ self.old.judged }
     {

@@ -14,7 +14,7 @@ use verdict::judged::Judged;
 impl<Q: ReadyQueue> Bench<Q> {
     // Makes a call, done or refused.
     fn make(&mut self, call: Call)
-        ensures state { model waiting self.new.parts ≡ called (judged_rows self.old.parts.judged) call (model waiting self.old.parts) }
+        ensures state { model Q.waiting self.new.parts ≡ called (judged_rows self.old.parts.judged) call (model Q.waiting self.old.parts) }
         ensures judged { self.new.parts.judged ≡ self.old.parts.judged }
     {
         match call {

@@ -28,7 +28,7 @@ fn print<W: Write>(answer: Result<Outcome, StepRefusal>, output: &mut W) -> io::
 impl<Q: ReadyQueue> Bench<Q> {
     // Steps with each byte, as the character of that number, and hands each step's lines to the writer; ends early where that fails.
     fn feed<W: Write>(&mut self, letters: &[u8], output: &mut W) -> io::Result<()>
-        ensures state { (n : ℕ) × (model waiting self.new.parts ≡ run_from (judged_rows self.old.parts.judged) (map Step (take n letters.now)) (model waiting self.old.parts)) }
+        ensures state { (n : ℕ) × (model Q.waiting self.new.parts ≡ run_from (judged_rows self.old.parts.judged) (map Step (take n letters.now)) (model Q.waiting self.old.parts)) }
         ensures judged { self.new.parts.judged ≡ self.old.parts.judged }
     {
         for letter in letters {
@@ -46,7 +46,7 @@ impl<Q: ReadyQueue> Bench<Q> {
     // Reads letters to the end of the input and steps with each; ends early where reading or writing fails.
     // What a chunk of letters gave is written out before the next chunk is waited for.
     fn follow<R: Read, W: Write>(&mut self, input: &mut R, output: &mut W) -> io::Result<()>
-        ensures state { (letters : List ℕ) × (model waiting self.new.parts ≡ run_from (judged_rows self.old.parts.judged) (map Step letters) (model waiting self.old.parts)) }
+        ensures state { (letters : List ℕ) × (model Q.waiting self.new.parts ≡ run_from (judged_rows self.old.parts.judged) (map Step letters) (model Q.waiting self.old.parts)) }
         ensures judged { self.new.parts.judged ≡ self.old.parts.judged }
     {
         let mut chunk = [0u8; CHUNK];

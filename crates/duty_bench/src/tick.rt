@@ -74,7 +74,7 @@ impl<Q: ReadyQueue> Parts<Q> {
     // Takes the first waiting job into the hand, if that is empty.
     pub(crate) fn pick(&mut self)
         requires { Midway 1 0 self.old }
-        ensures is { model waiting self.new ≡ picked (model waiting self.old) }
+        ensures is { model Q.waiting self.new ≡ picked (model Q.waiting self.old) }
         ensures midway { Midway 1 0 self.new }
         ensures judged { self.new.judged ≡ self.old.judged }
     {
@@ -90,7 +90,7 @@ impl<Q: ReadyQueue> Parts<Q> {
     // Counts a job that begins, and a job that takes over from another.
     pub(crate) fn begin(&mut self)
         requires { Midway 1 0 self.old }
-        ensures is { model waiting self.new ≡ started (judged_rows self.old.judged) (model waiting self.old) }
+        ensures is { model Q.waiting self.new ≡ started (judged_rows self.old.judged) (model Q.waiting self.old) }
         ensures midway { Midway 1 1 self.new }
         ensures judged { self.new.judged ≡ self.old.judged }
     {
@@ -120,7 +120,7 @@ impl<Q: ReadyQueue> Parts<Q> {
     fn finish(&mut self, job: Job) -> Tick
         requires midway { Midway 1 1 self.old }
         requires hand { (holds : ℕ) × (self.old.stage ≡ Keeping job holds) }
-        ensures is { model waiting self.new ≡ moved_with Done job 0 (model waiting self.old) }
+        ensures is { model Q.waiting self.new ≡ moved_with Done job 0 (model Q.waiting self.old) }
         ensures line { result ≡ tick_line Done job self.old.clock }
         ensures settled { Settled self.new }
         ensures running { running_stage self.new.stage ≡ true }
@@ -138,7 +138,7 @@ impl<Q: ReadyQueue> Parts<Q> {
     fn put_back(&mut self, job: Job) -> Tick
         requires midway { Midway 1 1 self.old }
         requires hand { (holds : ℕ) × (self.old.stage ≡ Keeping job holds) }
-        ensures is { model waiting self.new ≡ moved_with PutBack job 0 (model waiting self.old) }
+        ensures is { model Q.waiting self.new ≡ moved_with PutBack job 0 (model Q.waiting self.old) }
         ensures line { result ≡ tick_line PutBack job self.old.clock }
         ensures settled { Settled self.new }
         ensures running { running_stage self.new.stage ≡ true }
@@ -161,7 +161,7 @@ impl<Q: ReadyQueue> Parts<Q> {
     fn idle(&mut self) -> Tick
         requires midway { Midway 1 1 self.old }
         requires free { self.old.stage ≡ Free }
-        ensures is { model waiting self.new ≡ idled (model waiting self.old) }
+        ensures is { model Q.waiting self.new ≡ idled (model Q.waiting self.old) }
         ensures line { result ≡ idle_line self.old.clock }
         ensures settled { Settled self.new }
         ensures running { running_stage self.new.stage ≡ true }
@@ -184,7 +184,7 @@ impl<Q: ReadyQueue> Parts<Q> {
     fn keep(&mut self, job: Job) -> Tick
         requires midway { Midway 1 1 self.old }
         requires hand { (holds : ℕ) × (self.old.stage ≡ Keeping (worked-job job) holds) }
-        ensures is { model waiting self.new ≡ kept_with job (model waiting self.old) }
+        ensures is { model Q.waiting self.new ≡ kept_with job (model Q.waiting self.old) }
         ensures line { result ≡ tick_line Held job self.old.clock }
         ensures settled { Settled self.new }
         ensures running { running_stage self.new.stage ≡ true }
@@ -203,7 +203,7 @@ impl<Q: ReadyQueue> Parts<Q> {
     // The job in the hand works for a tick, or the tick is idle.
     pub(crate) fn work(&mut self, letter: char) -> Tick
         requires midway { Midway 1 1 self.old }
-        ensures is { model waiting self.new ≡ moved (judged_rows self.old.judged) (asked letter) (model waiting self.old) }
+        ensures is { model Q.waiting self.new ≡ moved (judged_rows self.old.judged) (asked letter) (model Q.waiting self.old) }
         ensures line { result ≡ line_by (judged_rows self.old.judged) (asked letter) (hand_of self.old.stage) self.old.clock }
         ensures settled { Settled self.new }
         ensures running { running_stage self.new.stage ≡ true }

@@ -7,7 +7,7 @@ use Rattle.duty_bench.proofs.Openings.{counted_none, take_none}
 use Rattle.duty_bench.proofs.open.open.Goals as goal
 
 pub invariant_of-result : goal.invariant_of-result
-invariant_of-result g c = (refl, (lit≤ tt, (refl, (counted_none 32, (c.first_releases-coming.ensures, (opened_ahead (judged_rows c.args.judged) (replicate 32 no_counts), (lit≤ tt, (lit≤ tt, (lit≤ tt, tt)))))))))
+invariant_of-result g c = record { known = refl; early = lit≤ tt; whole = refl; counted = counted_none 32; awaited = c.first_releases-coming.ensures; ahead = opened_ahead (judged_rows c.args.judged) (replicate 32 no_counts); idle = lit≤ tt; begun = lit≤ tt; interruptions = lit≤ tt }
 
 pub returns : goal.returns
 returns g c = record {
