@@ -73,6 +73,10 @@ def own_names(crates):
             name = word[0]
             if "-" in name and name[0].isalpha() and name not in others and body[word.start() - 1 : word.start()] != ".":
                 found.add(name)
+    # the sources' own names for what they import
+    for path in files(".rt"):
+        for item in re.findall(r"(?m)^ghost use \S+\{([^}]*)\};", read(path)):
+            found.update(re.findall(r" as ([a-z]+-[a-z-]+)", item))
     return found
 
 

@@ -1,4 +1,6 @@
 // bench: judges the sheet in the working folder, runs it on the letters of standard input, and prints the log.
+#![tactic(auto)]
+
 use program::run::run;
 use std::fs::File;
 use std::io::BufWriter;

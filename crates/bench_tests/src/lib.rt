@@ -1,3 +1,5 @@
+#![tactic(auto)]
+
 // The bench over every ready queue, on the same tables and letters: what it answers must not tell the queues apart.
 // And the program's whole logs, with readers that give their bytes in parts.
 #[cfg(test)]

@@ -1,5 +1,5 @@
 -- Who runs.
-use Rattle.std.proofs.Common.{◌≡◌, true, false, List, refl}
+use Rattle.std.proofs.Common.{◌≡◌, true, List, refl}
 use mathlib.Core.Bool.{false≢true}
 use Rattle.ready.specs.declared.job.Job.{Job}
 use Rattle.ready.specs.Waiting.{first_of}

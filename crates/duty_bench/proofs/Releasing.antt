@@ -6,7 +6,7 @@ use Rattle.sheet.specs.declared.row.Row.{Row}
 use Rattle.verdict.specs.Test.{row_at}
 use Rattle.rules.specs.declared.counts.TaskCounts.{TaskCounts}
 use Rattle.rules.specs.State.{State, no_counts, task_at}
-use Rattle.rules.specs.Release.{next_release, due, with_release, release, releases, released}
+use Rattle.rules.specs.Release.{next_release, due, with_release, release, releases}
 use Rattle.duty_bench.specs.Awaited.{next_time}
 
 -- the next release of a task after one more job

@@ -1,4 +1,6 @@
 // The bench: a judged table that is run tick by tick over a ready queue.
+#![tactic(auto)]
+
 mod advance;
 pub mod ask;
 pub mod bench;

@@ -1,7 +1,7 @@
 // Point 1 of a step: the releases.
 ghost use Rattle.std.specs.Prelude.{◌≡◌, ℕ, ◌+◌, ◌^◌, ◌<◌, ◌≤◌, length, replicate, Some, slice_index_or};
 ghost use Rattle.rules.specs.State.{no_counts, task_at};
-ghost use Rattle.rules.specs.Release.{with_release, release as one-release, released as all-released};
+ghost use Rattle.rules.specs.Release.{with_release, release as one_release, released as all_released};
 ghost use Rattle.duty_bench.specs.Model.{model, judged_rows};
 ghost use Rattle.duty_bench.specs.Awaited.{Awaited, first_due};
 ghost use Rattle.duty_bench.specs.Bounds.{Midway};
@@ -61,7 +61,7 @@ impl<Q: ReadyQueue> Parts<Q> {
     fn release(&mut self, task: u32)
         requires midway { Midway 0 0 self.old }
         requires due { first_due self.old.clock self.old.coming ≡ Some task }
-        ensures is { model Q.waiting self.new ≡ one-release (judged_rows self.old.judged) task (model Q.waiting self.old) }
+        ensures is { model Q.waiting self.new ≡ one_release (judged_rows self.old.judged) task (model Q.waiting self.old) }
         ensures midway { Midway 0 0 self.new }
         ensures judged { self.new.judged ≡ self.old.judged }
     {
@@ -83,7 +83,7 @@ impl<Q: ReadyQueue> Parts<Q> {
     // Releases every job whose release is now, in task order.
     pub(crate) fn release_due(&mut self)
         requires { Midway 0 0 self.old }
-        ensures is { model Q.waiting self.new ≡ all-released (judged_rows self.old.judged) (model Q.waiting self.old) }
+        ensures is { model Q.waiting self.new ≡ all_released (judged_rows self.old.judged) (model Q.waiting self.old) }
         ensures midway { Midway 1 0 self.new }
         ensures judged { self.new.judged ≡ self.old.judged }
     {

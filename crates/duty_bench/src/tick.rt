@@ -1,7 +1,7 @@
 // A tick of the processor, in the order of the rules.
 ghost use Rattle.std.specs.Prelude.{◌≡◌, ℕ, ◌+◌, ◌^◌, ◌<◌, ◌≤◌, true, length, slice_index_or};
 ghost use Rattle.verdict.specs.Test.{row_at};
-ghost use Rattle.rules.specs.Tick.{worked as worked-job};
+ghost use Rattle.rules.specs.Tick.{worked as worked_job};
 ghost use Rattle.duty_bench.specs.Model.{model, judged_rows, hand_of};
 ghost use Rattle.rules.specs.State.{no_counts};
 ghost use Rattle.duty_bench.specs.Stages.{picked, started, most_holds, credited, moved_with, idled, kept_with, moved, idle_line, tick_of, tick_line, line_by, asked};
@@ -20,7 +20,7 @@ use sheet::row::Row;
 
 // The job with one unit less.
 fn worked(job: &Job) -> Job
-    ensures { result ≡ worked-job job.now }
+    ensures { result ≡ worked_job job.now }
 {
     Job {
         key: job.key,
@@ -183,7 +183,7 @@ impl<Q: ReadyQueue> Parts<Q> {
     // Counts the tick of a job that keeps the processor, with one hold more.
     fn keep(&mut self, job: Job) -> Tick
         requires midway { Midway 1 1 self.old }
-        requires hand { (holds : ℕ) × (self.old.stage ≡ Keeping (worked-job job) holds) }
+        requires hand { (holds : ℕ) × (self.old.stage ≡ Keeping (worked_job job) holds) }
         ensures is { model Q.waiting self.new ≡ kept_with job (model Q.waiting self.old) }
         ensures line { result ≡ tick_line Held job self.old.clock }
         ensures settled { Settled self.new }

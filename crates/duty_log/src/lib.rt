@@ -1,4 +1,6 @@
 // The log: a line is a value first, and its bytes are a function of that value.
+#![tactic(auto)]
+
 mod build;
 pub mod line;
 pub mod refusal;

@@ -1,4 +1,6 @@
 // Heaps: one text for every kind of entry whose order is total. It serves waiting jobs and coming releases.
+#![tactic(auto)]
+
 pub mod entry;
 pub mod job;
 pub mod release;

@@ -1,3 +1,5 @@
 // A ready queue that keeps its jobs in a heap.
+#![tactic(auto)]
+
 pub mod queue;
 mod scan;

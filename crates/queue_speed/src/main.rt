@@ -1,4 +1,6 @@
 // Times the ready queues: puts and takes over 32 tasks, with so many jobs waiting. The times go to standard error.
+#![tactic(auto)]
+
 use heap_queue::queue::HeapQueue;
 use lane_queue::queue::LaneQueue;
 use plain_queue::queue::PlainQueue;

@@ -1,4 +1,6 @@
 // Ready queues: the jobs that wait for the processor, and the interface that every queue of them keeps.
+#![tactic(auto)]
+
 pub mod job;
 pub mod order;
 pub mod queue;

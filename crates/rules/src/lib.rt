@@ -1,4 +1,6 @@
 // The rules of a run: what a step does, and what is true of every run.
+#![tactic(auto)]
+
 pub mod call;
 pub mod closing;
 pub mod counts;

@@ -1,4 +1,6 @@
 // Task tables and their sheets: rows, the rules that a table keeps, reading and writing.
+#![tactic(auto)]
+
 pub mod fault;
 mod layout;
 pub mod made;

@@ -3,7 +3,7 @@ use Rattle.rules.specs.declared.call.Call.TheVariants.{Step}
 use Rattle.rules.specs.Promises.{Promised}
 use Rattle.rules.specs.Run.{run_from, after_run, closing_of}
 use Rattle.rules.proofs.Closings.{every_closing}
-use Rattle.duty_bench.specs.Model.{model, judged_rows}
+use Rattle.duty_bench.specs.Model.{judged_rows}
 use Rattle.duty_bench.proofs.stream.stream.Goals as goal
 
 pub returns : goal.returns

@@ -1,6 +1,4 @@
-use Rattle.std.proofs.Common.{◌≡◌, ◌+◌, map, take, ap, ◌∙◌}
-use Rattle.rules.specs.declared.call.Call.TheVariants.{Step}
-use Rattle.rules.specs.Run.{run_from}
+use Rattle.std.proofs.Common.{◌+◌, ap, ◌∙◌}
 use Rattle.duty_bench.specs.Model.{model, judged_rows}
 use Rattle.duty_bench.proofs.Calls.{next_letter}
 use Rattle.duty_bench.proofs.bench.Bench.feed.Goals as goal

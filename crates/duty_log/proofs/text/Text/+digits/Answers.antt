@@ -1,4 +1,4 @@
-use Rattle.std.proofs.Common.{◌≡◌, ◌+◌, ◌/◌, ◌%◌, [], ◌∷◌, ◌++◌, length, decimal, sym, ap, ◌∙◌, arith}
+use Rattle.std.proofs.Common.{◌+◌, ◌%◌, [], ◌∷◌, ◌++◌, length, sym, ap, ◌∙◌, arith}
 use Rattle.duty_log.specs.Texts.{text_bytes}
 use Rattle.duty_log.specs.declared.text.Text.{Text}
 use Rattle.duty_log.proofs.Digits.{one_digit, last_digit, one_more_digit}
