@@ -1,6 +1,6 @@
 -- The releases to come: one for each task, in order.
 use Rattle.std.proofs.Common.{◌≡◌, ℕ, zero, suc, ◌+◌, ◌-◌, ◌*◌, ◌<◌, ◌≤◌, Bool, true, false, cond, eqb, List, [], ◌∷◌, map, length, get_or, Some, None, Option, sym, refl, ap, ◌∙◌, subst, ⊎_elim, arith}
-use Rattle.std.specs.List.{AllByRecursion as All}
+use Rattle.std.specs.List.{AllByRecursion}
 use Rattle.std.proofs.ByRecursion.{All-weaker}
 use Rattle.std.proofs.lemmas.Bool.{cases_eq, eqb-true, eqb-false}
 use Rattle.std.proofs.lemmas.Bool.Decides.{nat_tests}
@@ -70,11 +70,11 @@ abbrev pub entry : (ℕ → ℕ) → ℕ → Release
 entry f i = record { time = f i; task = i }
 
 module _ (P : Release → Type 0) where
-  all_one_each : (f : ℕ → ℕ) (n : ℕ) → ((i : ℕ) → 1 ≤ i → i ≤ n → P (entry f i)) → All P (one_each f n)
+  all_one_each : (f : ℕ → ℕ) (n : ℕ) → ((i : ℕ) → 1 ≤ i → i ≤ n → P (entry f i)) → AllByRecursion P (one_each f n)
   all_one_each f zero h = tt
   all_one_each f (suc n) h = (h (suc n) (omega arith) (omega arith), all_one_each f n (λ i l m. h i l (omega arith)))
 
-  at_one_each : (f : ℕ → ℕ) (n : ℕ) → All P (one_each f n) → (i : ℕ) → 1 ≤ i → i ≤ n → P (entry f i)
+  at_one_each : (f : ℕ → ℕ) (n : ℕ) → AllByRecursion P (one_each f n) → (i : ℕ) → 1 ≤ i → i ≤ n → P (entry f i)
   at_one_each f zero h i l m = absurd (omega arith)
   at_one_each f (suc n) h i l m = ⊎_elim
       (λ (e : i ≡ suc n). subst (λ (k : ℕ). P (entry f k)) (sym e) h.0)
@@ -116,8 +116,8 @@ module _ (f g : ℕ → ℕ) (i : ℕ) (low : 1 ≤ i) (same : (k : ℕ) → 1 �
   renewed n rest high later e =
       let P : Release → Type 0 = λ y. earlier y (entry f i) ≡ false in
       let sorted : Sorted earlier (entry f i ∷ rest) = subst (Sorted earlier) e (sorted_ordered earlier release_order.one_way release_order.chain (one_each f n)) in
-      let before : All P (one_each f n) = all_from_ordered earlier P (one_each f n) (subst (All P) (sym e) (never earlier release_order (entry f i), sorted.0)) in
-      let after : All P (one_each g n) = all_one_each P g n (λ k a b. ⊎_elim
+      let before : AllByRecursion P (one_each f n) = all_from_ordered earlier P (one_each f n) (subst (AllByRecursion P) (sym e) (never earlier release_order (entry f i), sorted.0)) in
+      let after : AllByRecursion P (one_each g n) = all_one_each P g n (λ k a b. ⊎_elim
       (λ (q : k ≡ i). subst (λ (m : ℕ). P (entry g m)) (sym q) (turned (entry f i) (entry g i) later))
       (λ (ne : k ≡ i → ⊥). subst (λ (t : ℕ). P (record { time = t; task = k })) (sym (same k a ne)) (at_one_each P f n before k a b))
       (cases_eq k i)) in
@@ -152,8 +152,8 @@ not_due_by : (x : Release) (clock : ℕ) (b : Bool) → eqb x.time clock ≡ b �
 not_due_by x clock true t e q = let z : ◌≡◌ {A = ℕ} 0 1 = cc in omega arith
 not_due_by x clock false t e q = eqb-false x.time clock t q
 
-later_all : (clock : ℕ) (xs : List Release) → Sorted earlier xs → All (λ r. clock ≤ r.time) xs → due_at clock (first_of xs) ≡ None
-    → All (λ r. clock < r.time) xs
+later_all : (clock : ℕ) (xs : List Release) → Sorted earlier xs → AllByRecursion (λ r. clock ≤ r.time) xs → due_at clock (first_of xs) ≡ None
+    → AllByRecursion (λ r. clock < r.time) xs
 later_all clock [] s a e = tt
 later_all clock (x ∷ xs) s a e =
     let ne : x.time ≡ clock → ⊥ = not_due_by x clock (eqb x.time clock) refl e in
@@ -180,9 +180,9 @@ module _ (f : ℕ → ℕ) (n clock : ℕ) (early : (k : ℕ) → 1 ≤ k → k 
       let s : xs ≡ x ∷ rest_of xs = split xs clock i e in
       let F : Release → Type 0 = λ r. (1 ≤ r.task) × (r.task ≤ n) × (f r.task ≡ r.time) in
       let P : Release → Type 0 = λ y. earlier y x ≡ false in
-      let known : F x = (subst (All F) s (all_ordered earlier F (one_each f n) (all_one_each F f n (λ k a b. (a, b, refl))))).0 in
+      let known : F x = (subst (AllByRecursion F) s (all_ordered earlier F (one_each f n) (all_one_each F f n (λ k a b. (a, b, refl))))).0 in
       let sorted : Sorted earlier (x ∷ rest_of xs) = subst (Sorted earlier) s (sorted_ordered earlier release_order.one_way release_order.chain (one_each f n)) in
-      let least : All P (one_each f n) = all_from_ordered earlier P (one_each f n) (subst (All P) (sym s) (never earlier release_order x, sorted.0)) in
+      let least : AllByRecursion P (one_each f n) = all_from_ordered earlier P (one_each f n) (subst (AllByRecursion P) (sym s) (never earlier release_order x, sorted.0)) in
       record {
         low = known.0;
         high = known.1;

@@ -1,6 +1,6 @@
 -- The list in order: it does not depend on the order that its entries came in.
 use Rattle.std.proofs.Common.{◌≡◌, ℕ, zero, suc, ◌<◌, Bool, true, false, cond, List, [], ◌∷◌, length, get_or, set, sym, refl, ap, ◌∙◌, subst, ⊎_elim, arith}
-use Rattle.std.specs.List.{ContainsAt as Has, AllByRecursion as All, swap}
+use Rattle.std.specs.List.{ContainsAt, AllByRecursion, swap}
 use Rattle.std.specs.List.Sorted.{IsPermutation}
 use Rattle.std.specs.Cmp.{IsStrictWeakOrder}
 use Rattle.std.proofs.ByRecursion.{All-get_or, All-set, all_has_itself, All-from_get_or, all_shuffled}
@@ -39,7 +39,7 @@ module _ {X : Type 0} (ahead : X → X → Bool) (o : IsStrictWeakOrder ahead) w
   cancel b (u ∷ us) (v ∷ vs) e = less b u v us vs (ahead u b) (ahead v b) refl refl (cancel b us vs) e
 
   module _ (D : X → Type 0) (clear : (a b : X) → D a → D b → Apart ahead a b) where
-    replaced : (xs : List X) (i : ℕ) (b d : X) → i < length xs → D b → All D xs → placed ahead (get_or xs i d) (ordered ahead (set xs i b)) ≡ placed ahead b (ordered ahead xs)
+    replaced : (xs : List X) (i : ℕ) (b d : X) → i < length xs → D b → AllByRecursion D xs → placed ahead (get_or xs i d) (ordered ahead (set xs i b)) ≡ placed ahead b (ordered ahead xs)
     replaced [] i b d l p h = absurd (omega arith)
     replaced (x ∷ xs) zero b d l p h = placed_placed ahead o.one_way o.chain x b (clear x b h.0 p) (ordered ahead xs)
     replaced (x ∷ xs) (suc i) b d l p h =
@@ -47,7 +47,7 @@ module _ {X : Type 0} (ahead : X → X → Bool) (o : IsStrictWeakOrder ahead) w
         ∙ ap (placed ahead x) (replaced xs i b d (omega arith) p h.1)
         ∙ placed_placed ahead o.one_way o.chain x b (clear x b h.0 p) (ordered ahead xs)
 
-    exchange : (xs : List X) (i j : ℕ) (d : X) → i < length xs → j < length xs → All D xs → ordered ahead (set (set xs i (get_or xs j d)) j (get_or xs i d)) ≡ ordered ahead xs
+    exchange : (xs : List X) (i j : ℕ) (d : X) → i < length xs → j < length xs → AllByRecursion D xs → ordered ahead (set (set xs i (get_or xs j d)) j (get_or xs i d)) ≡ ordered ahead xs
     exchange xs i j d p q h =
         let a = get_or xs i d in
         let b = get_or xs j d in
@@ -60,20 +60,20 @@ module _ {X : Type 0} (ahead : X → X → Bool) (o : IsStrictWeakOrder ahead) w
         cancel b _ _ (ap (λ y. placed ahead y (ordered ahead (set ys j a))) (sym same) ∙ replaced ys j a d q' Da (All-set D xs i b Db h) ∙ replaced xs i b d p Db h)
 
   -- the same entries in another order are the same list in order
-  pub settled : (xs : List X) → ((a b : X) → Has xs a → Has xs b → Apart ahead a b) → (ys : List X) → IsPermutation xs ys → ordered ahead ys ≡ ordered ahead xs
+  pub settled : (xs : List X) → ((a b : X) → ContainsAt xs a → ContainsAt xs b → Apart ahead a b) → (ys : List X) → IsPermutation xs ys → ordered ahead ys ≡ ordered ahead xs
   settled [] clear ys s = ap (ordered ahead) (nil_from_length ys (length_permutation [] ys s))
   settled (d ∷ xs) clear ys s =
-      let D = Has (d ∷ xs) in
-      (IsPermutation-keeps (d ∷ xs) (λ l. All D l × (ordered ahead l ≡ ordered ahead (d ∷ xs))) (all_has_itself (d ∷ xs), refl)
+      let D = ContainsAt (d ∷ xs) in
+      (IsPermutation-keeps (d ∷ xs) (λ l. AllByRecursion D l × (ordered ahead l ≡ ordered ahead (d ∷ xs))) (all_has_itself (d ∷ xs), refl)
       (λ l i j p q h.
       let is : set (set l i (get_or l j d)) j (get_or l i d) ≡ swap l i j = swap_is l i j d p q ∙ as_core l i j in (
-        subst (All D) is (All-set D _ j _ (All-get_or D l i d p h.0) (All-set D l i _ (All-get_or D l j d q h.0) h.0)),
+        subst (AllByRecursion D) is (All-set D _ j _ (All-get_or D l i d p h.0) (All-set D l i _ (All-get_or D l j d q h.0) h.0)),
         ap (ordered ahead) (sym is) ∙ exchange D clear l i j d p q h.0 ∙ h.1,
       ))
       ys s).1
 
   -- an entry that comes first, and the others, are the list in order
-  pub led : (x : X) (xs ys : List X) → ((a b : X) → Has xs a → Has xs b → Apart ahead a b) → All (λ y. ahead y x ≡ false) xs → IsPermutation xs (x ∷ ys) → ordered ahead xs ≡ x ∷ ordered ahead ys
+  pub led : (x : X) (xs ys : List X) → ((a b : X) → ContainsAt xs a → ContainsAt xs b → Apart ahead a b) → AllByRecursion (λ y. ahead y x ≡ false) xs → IsPermutation xs (x ∷ ys) → ordered ahead xs ≡ x ∷ ordered ahead ys
   led x xs ys clear first s =
       let P : X → Type 0 = λ y. ahead y x ≡ false in
       sym (settled xs clear (x ∷ ys) s) ∙ placed_foremost ahead x (ordered ahead ys) (all_ordered ahead P ys (all_shuffled P xs (x ∷ ys) s first).1)

@@ -1,6 +1,6 @@
 -- A heap in the first slots of a list. The parent of the entry at k + 1 stands at k / 2.
 use Rattle.std.specs.Prelude.{◌≡◌, ℕ, ◌+◌, ◌-◌, ◌/◌, ◌<◌, Bool, false, cond, ◌&&◌, List, ◌∷◌, length, take, drop, None, Ok, Err, Option, Result, nat_le, nat_lt, slice_index_or}
-use Rattle.std.specs.List.{ContainsAt as Has}
+use Rattle.std.specs.List.{ContainsAt}
 use Rattle.std.specs.List.Sorted.{IsPermutation}
 use Rattle.ready.specs.Sorted.{placed, ordered}
 use Rattle.ready.specs.Waiting.{first_of}
@@ -13,7 +13,7 @@ Heaped {X} ahead xs = (k : ℕ) (d : X) → k + 1 < length xs → ahead (slice_i
 
 -- entries that agree in their order fields are equal
 abbrev pub Distinct : {X : Type 0} → (X → List ℕ) → List X → Type 0
-Distinct {X} fields xs = (a b : X) → Has xs a → Has xs b → fields a ≡ fields b → a ≡ b
+Distinct {X} fields xs = (a b : X) → ContainsAt xs a → ContainsAt xs b → fields a ≡ fields b → a ≡ b
 
 -- what an add answers where `len` of the slots are in use and `room` entries can wait
 abbrev pub add_answer : ℕ → ℕ → ℕ → Result Unit HeapRefusal

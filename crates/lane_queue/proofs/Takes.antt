@@ -1,6 +1,6 @@
 -- The most urgent job, and its removal from its lane.
 use Rattle.std.proofs.Common.{◌≡◌, ℕ, suc, ◌+◌, ◌<◌, ◌≤◌, Bool, true, false, cond, eqb, ltb, List, [], ◌∷◌, ◌++◌, length, get_or, take, drop, set, count_by, sym, refl, ap, ◌∙◌, subst, ⊎_elim, arith}
-use Rattle.std.specs.List.{flat_map, AllByRecursion as All}
+use Rattle.std.specs.List.{flat_map, AllByRecursion}
 use Rattle.std.proofs.lemmas.List.{get_or-take, drop_more}
 use Rattle.std.proofs.ByRecursion.{All-weaker, All-from_get_or}
 use Rattle.std.proofs.lemmas.List.Sums.{count_by-le-length}
@@ -19,7 +19,7 @@ use Rattle.lane_queue.specs.Joins.{joined_cut, joined_set, joined_none, all_join
 use Rattle.lane_queue.specs.LanesLemmas.{at_set, length_lane, lane_tasks, tasks_in_front}
 
 -- a sorted list follows x where its first element does
-follows : (x : Job) (xs : List Job) → Sorted before xs → (0 < length xs → before (get_or xs 0 blank) x ≡ false) → All (λ y. before y x ≡ false) xs
+follows : (x : Job) (xs : List Job) → Sorted before xs → (0 < length xs → before (get_or xs 0 blank) x ≡ false) → AllByRecursion (λ y. before y x ≡ false) xs
 follows x [] s h = tt
 follows x (y ∷ ys) s h = let e = h (omega arith) in (e, All-weaker (λ z. before z y ≡ false) (λ z. before z x ≡ false) (λ z k. not_before_chain z y x k e) ys s.0)
 
@@ -29,10 +29,10 @@ head_is l p = get_or-take l.len l.jobs 0 blank p
 pub head_first : (l : Lane) → 0 < l.len → lane_jobs l ≡ head l ∷ drop 1 (lane_jobs l)
 head_first l p = drop_more (lane_jobs l) 0 blank (omega (arith, length_lane l)) ∙ ap (λ y. y ∷ drop 1 (lane_jobs l)) (head_is l p)
 
-lane_follows : (x : Job) (l : Lane) → (0 < l.len → before (head l) x ≡ false) → All (λ y. before y x ≡ false) (lane_jobs l)
+lane_follows : (x : Job) (l : Lane) → (0 < l.len → before (head l) x ≡ false) → AllByRecursion (λ y. before y x ≡ false) (lane_jobs l)
 lane_follows x l h = follows x (lane_jobs l) (orderings.sorted_from before before_one_way not_before_chain (lane_jobs l) l.sorted) (λ p. let q : 0 < l.len = omega (arith, length_lane l) in ap (λ y. before y x) (head_is l q) ∙ h q)
 
-all_without : (P : Job → Type 0) (us : List Job) (x : Job) (ws : List Job) → All P (us ++ x ∷ ws) → All P (us ++ ws)
+all_without : (P : Job → Type 0) (us : List Job) (x : Job) (ws : List Job) → AllByRecursion P (us ++ x ∷ ws) → AllByRecursion P (us ++ ws)
 all_without P [] x ws h = h.1
 all_without P (u ∷ us) x ws h = (h.0, all_without P us x ws h.1)
 
@@ -41,10 +41,10 @@ idle_ordered ls h = ap (ordered before) (joined_none lane_jobs ls (All-from_get_
 
 module _ (ls : List Lane) (owned : (i : ℕ) → count_by (of_task (i + 1)) (lane_jobs (get_or ls i empty)) ≡ (get_or ls i empty).len)
     (i : ℕ) (leads : Leads ls i) where
-  none_before : All (λ y. before y (head (get_or ls i empty)) ≡ false) (flat_map lane_jobs ls)
+  none_before : AllByRecursion (λ y. before y (head (get_or ls i empty)) ≡ false) (flat_map lane_jobs ls)
   none_before =
       let x = head (get_or ls i empty) in
-      all_joined lane_jobs (λ y. before y x ≡ false) ls (All-from_get_or (λ l. All (λ y. before y x ≡ false) (lane_jobs l)) ls empty (λ k b. lane_follows x (get_or ls k empty) (leads.2 k)))
+      all_joined lane_jobs (λ y. before y x ≡ false) ls (All-from_get_or (λ l. AllByRecursion (λ y. before y x ≡ false) (lane_jobs l)) ls empty (λ k b. lane_follows x (get_or ls k empty) (leads.2 k)))
 
   module _ (x : Job) (rest : List Job) (jobs_are : lane_jobs (get_or ls i empty) ≡ x ∷ rest) where
     is_head : x ≡ head (get_or ls i empty)
@@ -58,11 +58,11 @@ module _ (ls : List Lane) (owned : (i : ℕ) → count_by (of_task (i + 1)) (lan
     leader_first =
         let us = flat_map lane_jobs (take i ls) in
         let vs = flat_map lane_jobs (drop (suc i) ls) in
-        let task : x.task ≡ i + 1 = (subst (All (λ j. j.task ≡ i + 1)) jobs_are (lane_tasks ls owned i)).0 in
+        let task : x.task ≡ i + 1 = (subst (AllByRecursion (λ j. j.task ≡ i + 1)) jobs_are (lane_tasks ls owned i)).0 in
         let apart = All-weaker (λ j. j.task ≡ i + 1 → ⊥) (λ j. orderings.Apart before j x) (λ j u p q. absurd (u (tie_task j x p q ∙ task))) us (tasks_in_front ls owned i) in
         let P : Job → Type 0 = λ y. before y x ≡ false in
-        let all' : All P (flat_map lane_jobs ls) = subst (λ z. All (λ y. before y z ≡ false) (flat_map lane_jobs ls)) (sym is_head) none_before in
-        let others : All P (us ++ (rest ++ vs)) = all_without P us x (rest ++ vs) (subst (All P) cut all') in
+        let all' : AllByRecursion P (flat_map lane_jobs ls) = subst (λ z. AllByRecursion (λ y. before y z ≡ false) (flat_map lane_jobs ls)) (sym is_head) none_before in
+        let others : AllByRecursion P (us ++ (rest ++ vs)) = all_without P us x (rest ++ vs) (subst (AllByRecursion P) cut all') in
         ap (ordered before) cut ∙ orderings.placed_behind before before_one_way not_before_chain x us (x ∷ rest ++ vs) (rest ++ vs) apart refl
         ∙ orderings.placed_foremost before x (ordered before (us ++ (rest ++ vs))) (orderings.all_ordered before P (us ++ (rest ++ vs)) others)
 

@@ -1,7 +1,7 @@
 -- The jobs of all lanes, cut at one lane.
 use Rattle.std.specs.Prelude.{◌≡◌, ℕ, zero, suc, ◌<◌, List, [], ◌∷◌, ◌++◌, length, take, drop, slice_index_or, slice_set, refl}
 use Rattle.std.proofs.Common.{sym, ap, ◌∙◌, arith}
-use Rattle.std.specs.List.{flat_map, AllByRecursion as All}
+use Rattle.std.specs.List.{flat_map, AllByRecursion}
 use Rattle.std.proofs.lemmas.List.{append_assoc}
 use Rattle.std.proofs.ByRecursion.{All-append}
 
@@ -16,10 +16,10 @@ module _ {L X : Type 0} (f : L → List X) where
   joined_set (k ∷ ls) zero m l = refl
   joined_set (k ∷ ls) (suc i) m l = ap (λ r. f k ++ r) (joined_set ls i m (omega arith)) ∙ sym (append_assoc (f k) (flat_map f (take i ls)) _)
 
-  pub all_joined : (P : X → Type 0) (ls : List L) → All (λ l. All P (f l)) ls → All P (flat_map f ls)
+  pub all_joined : (P : X → Type 0) (ls : List L) → AllByRecursion (λ l. AllByRecursion P (f l)) ls → AllByRecursion P (flat_map f ls)
   all_joined P [] h = tt
   all_joined P (l ∷ ls) h = All-append P (f l) (flat_map f ls) h.0 (all_joined P ls h.1)
 
-  pub joined_none : (ls : List L) → All (λ l. f l ≡ []) ls → flat_map f ls ≡ []
+  pub joined_none : (ls : List L) → AllByRecursion (λ l. f l ≡ []) ls → flat_map f ls ≡ []
   joined_none [] h = refl
   joined_none (l ∷ ls) h = ap (λ r. r ++ flat_map f ls) h.0 ∙ joined_none ls h.1

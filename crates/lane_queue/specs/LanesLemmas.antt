@@ -1,7 +1,7 @@
 -- Lanes of which each holds the jobs of one task.
 use Rattle.std.specs.Prelude.{◌≡◌, ℕ, suc, ◌+◌, ◌-◌, ◌<◌, ◌≤◌, Bool, true, false, ◌&&◌, List, ◌++◌, length, get_or, take, drop, count_by, ◌==◌, ◌≢◌, slice_index_or, slice_set}
 use Rattle.std.proofs.Common.{sym, ap, subst, ◌∙◌, ⊎_elim, arith}
-use Rattle.std.specs.List.{flat_map, AllByRecursion as All}
+use Rattle.std.specs.List.{flat_map, AllByRecursion}
 use Rattle.std.proofs.lemmas.List.{length-take, length-take-le, get_or-take, get_or-drop, get_or-set_same, get_or-set_other}
 use Rattle.std.proofs.ByRecursion.{All-weaker, All-from_get_or}
 use Rattle.std.proofs.lemmas.Bool.{eqb-true, eq-eqb, ne_eqb, and_left, cases_eq, cases_Bool}
@@ -31,24 +31,24 @@ another : (t u : ℕ) → stray t ≡ true → stray u ≡ false → u ≢ t
 another t u h k e = let z : ◌≡◌ {A = ℕ} 0 1 = grind (arith, nat_tests) in omega arith
 
 module _ (ls : List Lane) (owned : (i : ℕ) → count_by (of_task (i + 1)) (lane_jobs (slice_index_or ls i empty)) ≡ (get_or ls i empty).len) where
-  pub lane_tasks : (i : ℕ) → All (λ j. j.task ≡ i + 1) (lane_jobs (slice_index_or ls i empty))
+  pub lane_tasks : (i : ℕ) → AllByRecursion (λ j. j.task ≡ i + 1) (lane_jobs (slice_index_or ls i empty))
   lane_tasks i =
       let l = get_or ls i empty in
       All-weaker (λ j. of_task (i + 1) j ≡ true) (λ j. j.task ≡ i + 1) (λ j e. eqb-true j.task (i + 1) e) (lane_jobs l) (all_pass (of_task (i + 1)) (lane_jobs l) (owned i ∙ sym (length_lane l)))
 
   -- the lanes in front of lane i, and those behind it, hold no job of its task
-  pub tasks_in_front : (i : ℕ) → All (λ j. j.task ≢ i + 1) (flat_map lane_jobs (take i ls))
+  pub tasks_in_front : (i : ℕ) → AllByRecursion (λ j. j.task ≢ i + 1) (flat_map lane_jobs (take i ls))
   tasks_in_front i =
       let P : Job → Type 0 = λ j. j.task ≡ i + 1 → ⊥ in
-      all_joined lane_jobs P (take i ls) (All-from_get_or (λ l. All P (lane_jobs l)) (take i ls) empty (λ k b.
+      all_joined lane_jobs P (take i ls) (All-from_get_or (λ l. AllByRecursion P (lane_jobs l)) (take i ls) empty (λ k b.
       let c : k < i = omega (arith, length-take i ls) in
-      subst (λ (l : Lane). All P (lane_jobs l)) (sym (get_or-take i ls k empty c)) (All-weaker (λ j. j.task ≡ k + 1) P (λ j e f. omega arith) (lane_jobs (slice_index_or ls k empty)) (lane_tasks k))))
+      subst (λ (l : Lane). AllByRecursion P (lane_jobs l)) (sym (get_or-take i ls k empty c)) (All-weaker (λ j. j.task ≡ k + 1) P (λ j e f. omega arith) (lane_jobs (slice_index_or ls k empty)) (lane_tasks k))))
 
-  pub tasks_behind : (i : ℕ) → All (λ j. j.task ≢ i + 1) (flat_map lane_jobs (drop (suc i) ls))
+  pub tasks_behind : (i : ℕ) → AllByRecursion (λ j. j.task ≢ i + 1) (flat_map lane_jobs (drop (suc i) ls))
   tasks_behind i =
       let P : Job → Type 0 = λ j. j.task ≡ i + 1 → ⊥ in
-      all_joined lane_jobs P (drop (suc i) ls) (All-from_get_or (λ l. All P (lane_jobs l)) (drop (suc i) ls) empty (λ k b.
-      subst (λ (l : Lane). All P (lane_jobs l)) (sym (get_or-drop (suc i) ls k empty)) (All-weaker (λ j. j.task ≡ suc i + k + 1) P (λ j e f. omega arith) (lane_jobs (slice_index_or ls (suc i + k) empty)) (lane_tasks (suc i + k)))))
+      all_joined lane_jobs P (drop (suc i) ls) (All-from_get_or (λ l. AllByRecursion P (lane_jobs l)) (drop (suc i) ls) empty (λ k b.
+      subst (λ (l : Lane). AllByRecursion P (lane_jobs l)) (sym (get_or-drop (suc i) ls k empty)) (All-weaker (λ j. j.task ≡ suc i + k + 1) P (λ j e f. omega arith) (lane_jobs (slice_index_or ls (suc i + k) empty)) (lane_tasks (suc i + k)))))
 
   module _ (i : ℕ) (in' : i < length ls) where
     -- jobs of the task are counted in its lane alone
@@ -71,10 +71,10 @@ module _ (ls : List Lane) (owned : (i : ℕ) → count_by (of_task (i + 1)) (lan
         ∙ count_by_same (is_job (i + 1) n) (of_number n) js (All-weaker (λ j. j.task ≡ i + 1) (λ j. is_job (i + 1) n j ≡ of_number n j) (λ j e. ap (λ (b : Bool). b && j.number == n) (eq-eqb j.task (i + 1) e)) js (lane_tasks i))
 
   module _ (whole : length ls ≡ 32) where
-    known : All (λ j. stray j.task ≡ false) (flat_map lane_jobs ls)
+    known : AllByRecursion (λ j. stray j.task ≡ false) (flat_map lane_jobs ls)
     known =
         let P : Job → Type 0 = λ j. stray j.task ≡ false in
-        all_joined lane_jobs P ls (All-from_get_or (λ l. All P (lane_jobs l)) ls empty (λ k b. All-weaker (λ j. j.task ≡ k + 1) P (λ j e. known_task j.task (omega arith) (omega arith)) (lane_jobs (slice_index_or ls k empty)) (lane_tasks k)))
+        all_joined lane_jobs P ls (All-from_get_or (λ l. AllByRecursion P (lane_jobs l)) ls empty (λ k b. All-weaker (λ j. j.task ≡ k + 1) P (λ j e. known_task j.task (omega arith) (omega arith)) (lane_jobs (slice_index_or ls k empty)) (lane_tasks k)))
 
     four : (t : ℕ) → count_by (of_task t) (flat_map lane_jobs ls) ≤ 4
     four t = ⊎_elim

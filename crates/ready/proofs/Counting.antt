@@ -1,7 +1,7 @@
 -- How many elements of a list pass a test.
 use Rattle.std.proofs.Common.{◌≡◌, ℕ, zero, suc, ◌+◌, ◌<◌, ◌≤◌, Bool, true, false, cond, List, [], ◌∷◌, ◌++◌, reverse, length, get_or, count_by, sym, refl, ap, ◌∙◌, subst, ⊎_elim, arith}
 use mathlib.Core.List.{reverse-cons}
-use Rattle.std.specs.List.{AllByRecursion as All}
+use Rattle.std.specs.List.{AllByRecursion}
 use Rattle.std.proofs.lemmas.List.Sums.{sum_by-cons, sum_by-append, sum_by_push, get_or-le-sum_by, count_by-le-length}
 use Rattle.std.proofs.lemmas.Bool.{cases_Bool}
 
@@ -27,11 +27,11 @@ module _ {X : Type 0} (p : X → Bool) where
   count_by_has xs i d h e = subst (λ n. n ≤ count_by p xs) (ap (λ (b : Bool). cond b 1 0) e) (get_or-le-sum_by (λ y. cond (p y) 1 0) xs i d h)
 
   -- where no element passes the count is 0, and the other way round
-  pub count_by_none : (xs : List X) → All (λ x. p x ≡ false) xs → count_by p xs ≡ 0
+  pub count_by_none : (xs : List X) → AllByRecursion (λ x. p x ≡ false) xs → count_by p xs ≡ 0
   count_by_none [] h = refl
   count_by_none (x ∷ xs) h = count_by_no x xs h.0 ∙ count_by_none xs h.1
 
-  pub none_passes : (xs : List X) → count_by p xs ≡ 0 → All (λ x. p x ≡ false) xs
+  pub none_passes : (xs : List X) → count_by p xs ≡ 0 → AllByRecursion (λ x. p x ≡ false) xs
   none_passes [] h = tt
   none_passes (x ∷ xs) h = ⊎_elim
       (λ (e : p x ≡ true). absurd (omega (arith, count_by_yes x xs e)))
@@ -39,7 +39,7 @@ module _ {X : Type 0} (p : X → Bool) where
       (cases_Bool (p x))
 
   -- where all are counted, all pass
-  pub all_pass : (xs : List X) → count_by p xs ≡ length xs → All (λ x. p x ≡ true) xs
+  pub all_pass : (xs : List X) → count_by p xs ≡ length xs → AllByRecursion (λ x. p x ≡ true) xs
   all_pass [] h = tt
   all_pass (x ∷ xs) h = ⊎_elim
       (λ (e : p x ≡ true). (e, all_pass xs (omega (arith, count_by_yes x xs e))))
@@ -47,7 +47,7 @@ module _ {X : Type 0} (p : X → Bool) where
       (cases_Bool (p x))
 
   -- where the count is not 0 an element passes, with all that holds of each
-  pub some_passes : (P : X → Type 0) (xs : List X) → 1 ≤ count_by p xs → All P xs → (x : X) × ((p x ≡ true) × P x)
+  pub some_passes : (P : X → Type 0) (xs : List X) → 1 ≤ count_by p xs → AllByRecursion P xs → (x : X) × ((p x ≡ true) × P x)
   some_passes P [] h a = absurd (omega arith)
   some_passes P (x ∷ xs) h a = ⊎_elim
       (λ (e : p x ≡ true). (x, (e, a.0)))
@@ -63,6 +63,6 @@ module _ {X : Type 0} (p : X → Bool) where
   one_passes (x ∷ xs) h a b (suc i) (suc j) l f m g e k = one_passes xs (omega (arith, count_by_cons x xs)) a b i j (omega arith) f (omega arith) g e k
 
 -- tests that agree count alike
-pub count_by_same : {X : Type 0} (p q : X → Bool) (xs : List X) → All (λ x. p x ≡ q x) xs → count_by p xs ≡ count_by q xs
+pub count_by_same : {X : Type 0} (p q : X → Bool) (xs : List X) → AllByRecursion (λ x. p x ≡ q x) xs → count_by p xs ≡ count_by q xs
 count_by_same p q [] h = refl
 count_by_same p q (x ∷ xs) h = count_by_cons p x xs ∙ ap (λ (b : Bool). cond b 1 0 + count_by p xs) h.0 ∙ ap (λ n. cond (q x) 1 0 + n) (count_by_same p q xs h.1) ∙ sym (count_by_cons q x xs)

@@ -4,7 +4,7 @@ use mathlib.Core.Bool.{Bool-set}
 use mathlib.Core.Logic.{∥∥₁_elim}
 use mathlib.Core.HLevel.{Unit-prop, ×_prop}
 use native.Mathlib.Bridge.{le_prop}
-use Rattle.std.specs.List.{AllByRecursion as All}
+use Rattle.std.specs.List.{AllByRecursion}
 use Rattle.std.proofs.lemmas.Bool.{and_from, and_parts, eq-eqb, eqb-true, leb-false}
 use Rattle.std.proofs.lemmas.Bool.Decides.{nat_tests}
 use Rattle.ready.specs.declared.job.Job.{Job}
@@ -98,7 +98,7 @@ lawful_placed j js h w = record {
 }
 
 -- the jobs of a list that is in no order
-pub lawful_ordered : (js : List Job) → All (λ j. stray j.task ≡ false) js → Once js → Four js → Lawful (ordered before js)
+pub lawful_ordered : (js : List Job) → AllByRecursion (λ j. stray j.task ≡ false) js → Once js → Four js → Lawful (ordered before js)
 lawful_ordered js known once four = record {
   sorted = sorted_ordered before before_one_way not_before_chain js;
   known = all_ordered before (λ j. stray j.task ≡ false) js known;
@@ -134,7 +134,7 @@ unfolding within
 known_within j h = grind (arith, nat_tests)
 
 -- each job is of one of the tasks 1 to 32
-length_of_tasks : (js : List Job) → All (λ j. stray j.task ≡ false) js → length js ≡ of_tasks 32 js
+length_of_tasks : (js : List Job) → AllByRecursion (λ j. stray j.task ≡ false) js → length js ≡ of_tasks 32 js
 length_of_tasks [] k = sym (of_tasks_none 32)
 length_of_tasks (j ∷ js) k =
     let here = known_within j k.0 in
@@ -160,7 +160,7 @@ room j js h w = omega (arith, lawful_most (placed before j js) (lawful_placed j 
 
 -- A lawful list, out of the truncation in which a ghost field holds it.
 
-all_prop : {X : Type 0} (f : X → Bool) (xs : List X) → IsProp (All (λ x. f x ≡ false) xs)
+all_prop : {X : Type 0} (f : X → Bool) (xs : List X) → IsProp (AllByRecursion (λ x. f x ≡ false) xs)
 all_prop f [] = Unit-prop
 all_prop f (x ∷ xs) = ×_prop (Bool-set (f x) false) (all_prop f xs)
 

@@ -1,6 +1,6 @@
 -- Elements at their places: what `placed` and `ordered` keep, and that they give a sorted list.
 use Rattle.std.proofs.Common.{◌≡◌, ℕ, suc, ◌+◌, Bool, true, false, cond, List, [], ◌∷◌, ◌++◌, length, sum_by, count_by, refl, ap, ◌∙◌, subst, arith}
-use Rattle.std.specs.List.{AllByRecursion as All}
+use Rattle.std.specs.List.{AllByRecursion}
 use Rattle.std.specs.List.Sorted.{IsPermutation}
 use Rattle.std.proofs.ByRecursion.{All-weaker, all_shuffled}
 use Rattle.std.proofs.lemmas.List.Sorted.{IsPermutation-refl, IsPermutation-sym, IsPermutation-trans, IsPermutation-cons, IsPermutation-swap, length_permutation, sum_by-IsPermutation}
@@ -17,7 +17,7 @@ module _ {X : Type 0} (ahead : X → X → Bool) where
   placed_here x y ys e = ap (λ b. cond b (y ∷ placed ahead x ys) (x ∷ y ∷ ys)) e
 
   -- an element that none comes before is placed in front
-  pub placed_foremost : (x : X) (xs : List X) → All (λ y. ahead y x ≡ false) xs → placed ahead x xs ≡ x ∷ xs
+  pub placed_foremost : (x : X) (xs : List X) → AllByRecursion (λ y. ahead y x ≡ false) xs → placed ahead x xs ≡ x ∷ xs
   placed_foremost x [] h = refl
   placed_foremost x (y ∷ ys) h = placed_here x y ys h.0
 
@@ -61,13 +61,13 @@ module _ {X : Type 0} (ahead : X → X → Bool) where
 
   -- and what holds of each
   module _ (P : X → Type 0) where
-    pub all_placed : (x : X) (xs : List X) → P x → All P xs → All P (placed ahead x xs)
+    pub all_placed : (x : X) (xs : List X) → P x → AllByRecursion P xs → AllByRecursion P (placed ahead x xs)
     all_placed x xs p h = all_shuffled P (x ∷ xs) _ (shuffled_placed x xs) (p, h)
 
-    pub all_ordered : (xs : List X) → All P xs → All P (ordered ahead xs)
+    pub all_ordered : (xs : List X) → AllByRecursion P xs → AllByRecursion P (ordered ahead xs)
     all_ordered xs h = all_shuffled P xs _ (shuffled_ordered xs) h
 
-    pub all_from_ordered : (xs : List X) → All P (ordered ahead xs) → All P xs
+    pub all_from_ordered : (xs : List X) → AllByRecursion P (ordered ahead xs) → AllByRecursion P xs
     all_from_ordered xs h = all_shuffled P _ xs (IsPermutation-sym xs _ (shuffled_ordered xs)) h
 
   -- x and y do not tie unless they are the same
@@ -125,6 +125,6 @@ module _ {X : Type 0} (ahead : X → X → Bool) where
     placed_in_front x (y ∷ ys) zs = front_step x (ahead y x) y ys zs refl (placed_in_front x ys zs)
 
     -- and so does one that comes to its place in the back part, where it ties with none in front
-    pub placed_behind : (x : X) (us vs ws : List X) → All (λ u. Apart u x) us → ordered ahead vs ≡ placed ahead x (ordered ahead ws) → ordered ahead (us ++ vs) ≡ placed ahead x (ordered ahead (us ++ ws))
+    pub placed_behind : (x : X) (us vs ws : List X) → AllByRecursion (λ u. Apart u x) us → ordered ahead vs ≡ placed ahead x (ordered ahead ws) → ordered ahead (us ++ vs) ≡ placed ahead x (ordered ahead (us ++ ws))
     placed_behind x [] vs ws h e = e
     placed_behind x (u ∷ us) vs ws h e = ap (placed ahead u) (placed_behind x us vs ws h.1 e) ∙ placed_placed u x h.0 (ordered ahead (us ++ ws))

@@ -1,6 +1,6 @@
 -- What a put answers, by the first refusal that applies, and the list that it leaves.
 use Rattle.std.proofs.Common.{◌≡◌, ℕ, ◌+◌, ◌<◌, ◌≤◌, Bool, true, false, cond, leb, List, Ok, Err, sum_by, count_by, Result, refl, ap, ◌∙◌, arith}
-use Rattle.std.specs.List.{AllByRecursion as All}
+use Rattle.std.specs.List.{AllByRecursion}
 use Rattle.std.proofs.lemmas.Bool.{cond_both, le-leb, lt-leb, leb-false}
 use Rattle.ready.specs.declared.job.Job.{Job}
 use Rattle.ready.specs.declared.refusal.PutRefusal.{PutRefusal}
@@ -47,8 +47,8 @@ module _ (j : Job) (js : List Job) where
       by (Ok u) = with_it
       by (Err why) = as_was
 
-  pub all_put : (P : Job → Type 0) → P j → All P js → All P (put_list j js)
-  all_put P p a = put_either (All P) (all_placed before P j js p a) a
+  pub all_put : (P : Job → Type 0) → P j → AllByRecursion P js → AllByRecursion P (put_list j js)
+  all_put P p a = put_either (AllByRecursion P) (all_placed before P j js p a) a
 
   pub sorted_put : Sorted before js → Sorted before (put_list j js)
   sorted_put s = put_either (Sorted before) (sorted_placed before before_one_way not_before_chain j js s) s

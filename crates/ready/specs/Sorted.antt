@@ -1,6 +1,6 @@
 -- Lists that are kept in an order. `ahead x y` says that x comes before y.
 use Rattle.std.specs.Prelude.{◌≡◌, Bool, false, cond, List, [], ◌∷◌}
-use Rattle.std.specs.List.{AllByRecursion as All}
+use Rattle.std.specs.List.{AllByRecursion}
 
 module _ {X : Type 0} (ahead : X → X → Bool) where
   -- x set at its place in a list that is in order
@@ -16,4 +16,4 @@ module _ {X : Type 0} (ahead : X → X → Bool) where
   -- no element comes before one that stands in front of it
   abbrev pub Sorted : List X → Type 0
   Sorted [] = Unit {0}
-  Sorted (x ∷ xs) = All (λ y. ahead y x ≡ false) xs × Sorted xs
+  Sorted (x ∷ xs) = AllByRecursion (λ y. ahead y x ≡ false) xs × Sorted xs

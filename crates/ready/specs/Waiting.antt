@@ -1,6 +1,6 @@
 -- The list of waiting jobs, and what the operations of a queue do to it.
 use Rattle.std.specs.Prelude.{◌≡◌, ℕ, ◌≤◌, Bool, false, cond, ◌&&◌, ◌||◌, List, [], ◌∷◌, Some, None, Ok, Err, count_by, Option, Result, ◌==◌, nat_le, nat_lt}
-use Rattle.std.specs.List.{AllByRecursion as All}
+use Rattle.std.specs.List.{AllByRecursion}
 use Rattle.ready.specs.declared.job.Job.{Job}
 use Rattle.ready.specs.declared.refusal.PutRefusal.{PutRefusal}
 use Rattle.ready.specs.declared.refusal.PutRefusal.TheVariants.{NoSuchTask, AlreadyWaits, FourWait}
@@ -49,6 +49,6 @@ put_list j js = put_by (put_answer j js) j js
 -- the list of a queue: most urgent first, of tasks 1 to 32, no job twice, at most four jobs of a task
 pub record Lawful (js : List Job) : Type 0 where
   pub sorted : Sorted before js
-  pub known : All (λ j. stray j.task ≡ false) js
+  pub known : AllByRecursion (λ j. stray j.task ≡ false) js
   pub once : (task number : ℕ) → count_by (is_job task number) js ≤ 1
   pub four : (task : ℕ) → count_by (of_task task) js ≤ 4

@@ -1,6 +1,6 @@
 -- Every tick is idle or given to a task, and idle only if nothing is pending.
 use Rattle.std.proofs.Common.{◌≡◌, ℕ, suc, ◌-◌, Bool, true, false, cond, eqb, List, [], length, Some, None, Ok, Err, Option, Result, refl, ap, ◌∙◌, subst, arith}
-use Rattle.std.specs.List.{AllByRecursion as All}
+use Rattle.std.specs.List.{AllByRecursion}
 use Rattle.sheet.specs.declared.row.Row.{Row}
 use Rattle.sheet.specs.Tables.{rows_of}
 use Rattle.verdict.specs.Test.{row_at}
@@ -28,7 +28,7 @@ time_kept rows = record {
   by_release = λ n s in' kept unmissed now e. omega (arith, given_release (suc n) s.tasks (omega arith) (omega (arith, kept.size)));
   by_idle = λ s kept turn e. omega arith;
   by_work = λ s kept c l a x j holds js turn e.
-      let p : Proper rows s j = (subst (All (Proper rows s)) (turn_pending s.hand s.waiting j holds js turn) kept.proper).0 in
+      let p : Proper rows s j = (subst (AllByRecursion (Proper rows s)) (turn_pending s.hand s.waiting j holds js turn) kept.proper).0 in
       omega (arith, given_tick (event_at rows l j holds) j.task s.tasks p.low (omega (arith, kept.size, p.high)));
 }
 

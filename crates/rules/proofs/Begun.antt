@@ -1,6 +1,6 @@
 -- Every released job has begun, or it pends with all its units left.
 use Rattle.std.proofs.Common.{◌≡◌, ℕ, suc, ◌+◌, ◌-◌, ◌≤◌, Bool, false, cond, List, length, Ok, sum_by, count_by, refl, ap, ◌∙◌, subst, arith}
-use Rattle.std.specs.List.{AllByRecursion as All}
+use Rattle.std.specs.List.{AllByRecursion}
 use Rattle.std.proofs.lemmas.Bool.{eq-eqb, ne_eqb}
 use Rattle.sheet.specs.declared.row.Row.{Row}
 use Rattle.sheet.specs.Rows.{units}
@@ -67,7 +67,7 @@ begun_kept rows ok = record {
   by_idle = λ s kept turn m. omega (arith, ap (count_by (untouched rows)) (nobody_pending s.hand s.waiting turn));
   by_work = λ s kept c l a x j holds js turn m.
       let split = turn_pending s.hand s.waiting j holds js turn in
-      let p : Proper rows s j = (subst (All (Proper rows s)) split kept.proper).0 in
+      let p : Proper rows s j = (subst (AllByRecursion (Proper rows s)) split kept.proper).0 in
       let touched : untouched rows (worked j) ≡ false
       = ne_eqb (j.left - 1) (units (row_at j.task rows)) (λ e. omega (arith, p.some, p.most)) in
       omega (

@@ -1,6 +1,6 @@
 -- A task's jobs get the units that they ask, unless they are ended early.
 use Rattle.std.proofs.Common.{◌≡◌, ℕ, suc, ◌+◌, ◌-◌, ◌*◌, ◌<◌, ◌≤◌, Bool, true, false, cond, eqb, ltb, List, ◌∷◌, length, Some, None, Ok, sym, refl, ap, ◌∙◌, subst, inl, inr, arith}
-use Rattle.std.specs.List.{AllByRecursion as All}
+use Rattle.std.specs.List.{AllByRecursion}
 use Rattle.std.proofs.lemmas.List.Sums.{sum_by-cons}
 use Rattle.std.proofs.lemmas.Bool.{eqb-true, eq-eqb, ne_eqb, both_ways}
 use Rattle.sheet.specs.declared.row.Row.{Row}
@@ -125,7 +125,7 @@ module _ (rows : List Row) (ok : Ruled rows) (s : State) (kept : Kept rows (leng
   split = turn_pending s.hand s.waiting j holds js turn
 
   its : Proper rows s j
-  its = (subst (All (Proper rows s)) split kept.proper).0
+  its = (subst (AllByRecursion (Proper rows s)) split kept.proper).0
 
   left_then : (b : Bool) → of_task i j ≡ b → left_of i (pending after) + cond b (1 + lost_by event (j.left - 1)) 0 ≡ left_of i (pending s)
   left_then b e =

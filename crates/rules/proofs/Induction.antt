@@ -1,6 +1,6 @@
 -- What the opening has, and each release and each tick keeps, holds after every run.
 use Rattle.std.proofs.Common.{◌≡◌, ℕ, zero, suc, ◌<◌, ◌≤◌, Bool, true, false, cond, eqb, List, [], ◌∷◌, length, Some, None, Option, refl, arith}
-use Rattle.std.specs.List.{AllByRecursion as All}
+use Rattle.std.specs.List.{AllByRecursion}
 use Rattle.sheet.specs.declared.row.Row.{Row}
 use Rattle.ready.specs.declared.job.Job.{Job}
 use Rattle.rules.specs.declared.refusal.StepRefusal.TheVariants.{LastClock}
@@ -65,18 +65,18 @@ module _ (rows : List Row) (ok : Ruled rows) (A : Call → Type 0) (P : State �
   after_call s sound p (AskTask i) a = p
   after_call s sound p First a = p
 
-  after_calls : (calls : List Call) (s : State) → Sound rows s → P s → All A calls → P (run_from rows calls s)
+  after_calls : (calls : List Call) (s : State) → Sound rows s → P s → AllByRecursion A calls → P (run_from rows calls s)
   after_calls [] s sound p a = p
   after_calls (c ∷ cs) s sound p a = after_calls cs (called rows c s) (sound_called rows ok s sound c) (after_call s sound p c a.0) a.1
 
-  pub kept_by_run : (calls : List Call) → All A calls → P (after_run rows calls)
+  pub kept_by_run : (calls : List Call) → AllByRecursion A calls → P (after_run rows calls)
   kept_by_run calls a = after_calls calls (opened rows) (sound_opened rows ok) keeps.at_opening a
 
 -- where nothing is asked of the calls
 abbrev pub Any : Call → Type 0
 Any c = Unit {0}
 
-pub all_any : (calls : List Call) → All Any calls
+pub all_any : (calls : List Call) → AllByRecursion Any calls
 all_any [] = tt
 all_any (c ∷ cs) = (tt, all_any cs)
 

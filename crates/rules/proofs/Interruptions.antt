@@ -1,6 +1,6 @@
 -- Interruptions are fewer than jobs begun: whoever takes over from a job that is not done has all its units left.
 use Rattle.std.proofs.Common.{◌≡◌, ℕ, zero, suc, ◌+◌, ◌-◌, ◌<◌, ◌≤◌, Bool, true, false, cond, eqb, ◌⊎◌, List, [], ◌∷◌, length, Some, None, Ok, Option, sym, refl, ap, ◌∙◌, subst, inl, inr, ⊎_elim, arith}
-use Rattle.std.specs.List.{AllByRecursion as All}
+use Rattle.std.specs.List.{AllByRecursion}
 use Rattle.std.proofs.ByRecursion.{All-weaker}
 use Rattle.std.proofs.lemmas.Bool.{cases_lt, eq-eqb, and_from, not_from_true, both_ways}
 use Rattle.sheet.specs.declared.row.Row.{Row}
@@ -48,14 +48,14 @@ record Waits (rows : List Row) (p : JobId) (js : List Job) : Type 0 where
   pub task : p.task ≡ job.task
   pub number : p.number ≡ job.number
   pub headed : Headed job js
-  pub yield : All (Yields rows job) js
+  pub yield : AllByRecursion (Yields rows job) js
 
 -- the previous job, if there is one, is in the hand or waits; a job in the hand is the previous one
 abbrev Before : List Row → Option JobId → Hand → List Job → Type 0
 Before rows None Empty js = Unit {0}
 Before rows None (Holding j holds) js = ⊥
 Before rows (Some p) Empty js = Waits rows p js
-Before rows (Some p) (Holding j holds) js = (p.task ≡ j.task) × (p.number ≡ j.number) × All (Yields rows j) js
+Before rows (Some p) (Holding j holds) js = (p.task ≡ j.task) × (p.number ≡ j.number) × AllByRecursion (Yields rows j) js
 
 -- where there is a previous job, a job has begun
 abbrev Counted : Option JobId → ℕ → Type 0
@@ -67,7 +67,7 @@ record Led (rows : List Row) (s : State) : Type 0 where
   pub few : Few s.counts
   pub previous : Before rows s.previous s.hand s.waiting
   pub counted : Counted s.previous s.counts.begun
-  pub begun : All (λ j. Begun rows j → 0 < s.counts.begun) (pending s)
+  pub begun : AllByRecursion (λ j. Begun rows j → 0 < s.counts.begun) (pending s)
 
 -- The waiting list through a put.
 
@@ -105,18 +105,18 @@ before_put rows (Some p) (Holding k holds) j js new b = (b.0, b.1, all_put j js 
 
 -- the waiting jobs that have begun are no more urgent than the one that runs
 turn_yields : (rows : List Row) (p : Option JobId) (h : Hand) (w : List Job) → Before rows p h w → Sorted before w
-    → (j : Job) (holds : ℕ) (js : List Job) → turn_of h w ≡ runs j holds js → All (Yields rows j) js
+    → (j : Job) (holds : ℕ) (js : List Job) → turn_of h w ≡ runs j holds js → AllByRecursion (Yields rows j) js
 turn_yields rows None (Holding k m) w b sorted j holds js e = absurd b
 turn_yields rows (Some p) (Holding k m) w b sorted j holds js e =
     let x : k ≡ j = cc in
     let y : w ≡ js = cc in
-    subst (λ (i : Job). All (Yields rows i) js) x (subst (All (Yields rows k)) y b.2)
+    subst (λ (i : Job). AllByRecursion (Yields rows i) js) x (subst (AllByRecursion (Yields rows k)) y b.2)
 turn_yields rows p Empty [] b sorted j holds js e = let z : ◌≡◌ {A = ℕ} 0 1 = cc in absurd (omega arith)
 turn_yields rows p Empty (k ∷ ks) b sorted j holds js e =
     let x : k ≡ j = cc in
     let y : ks ≡ js = cc in
-    subst (λ (i : Job). All (Yields rows i) js) x
-    (subst (All (Yields rows k)) y (All-weaker (λ i. before i k ≡ false) (Yields rows k) (λ i u begun. u) ks sorted.0))
+    subst (λ (i : Job). AllByRecursion (Yields rows i) js) x
+    (subst (AllByRecursion (Yields rows k)) y (All-weaker (λ i. before i k ≡ false) (Yields rows k) (λ i u begun. u) ks sorted.0))
 
 -- the previous job is no other than itself
 same_job : (p : JobId) (j : Job) → p.task ≡ j.task → p.number ≡ j.number → interrupts (Some p) j ≡ true → ⊥
@@ -146,7 +146,7 @@ counted_some (Some p) n j c o = c
 
 -- the previous job after the turn
 before_after : (rows : List Row) (e : Event) (j : Job) (left holds most : ℕ) (js : List Job) → Tells e left holds most
-    → put_answer (worked j) js ≡ Ok tt → All (Yields rows j) js
+    → put_answer (worked j) js ≡ Ok tt → AllByRecursion (Yields rows j) js
     → Before rows (previous_after e j) (hand_after e (worked j) holds) (waiting_after e (worked j) js)
 before_after rows Done j left holds most js t fits y = tt
 before_after rows PutBack j left holds most js t fits y = record {
@@ -192,10 +192,10 @@ module _ (rows : List Row) (ok : Ruled rows) where
     abbrev begun_then : ℕ
     begun_then = s.counts.begun + one_if (begins (row_at j.task rows) j)
 
-    split : (P : Job → Type 0) → All P (pending s) → All P (j ∷ js)
-    split P a = subst (All P) (turn_pending s.hand s.waiting j holds js turn) a
+    split : (P : Job → Type 0) → AllByRecursion P (pending s) → AllByRecursion P (j ∷ js)
+    split P a = subst (AllByRecursion P) (turn_pending s.hand s.waiting j holds js turn) a
 
-    begun_all : All (λ k. Begun rows k → 0 < s.counts.begun) (j ∷ js)
+    begun_all : AllByRecursion (λ k. Begun rows k → 0 < s.counts.begun) (j ∷ js)
     begun_all = split (λ k. Begun rows k → 0 < s.counts.begun) led.begun
 
     known : (begins (row_at j.task rows) j ≡ true) ⊎ Begun rows j

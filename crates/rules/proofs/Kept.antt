@@ -1,6 +1,6 @@
 -- What every call keeps of a bench, on every table.
 use Rattle.std.proofs.Common.{◌≡◌, ℕ, ◌+◌, ◌-◌, ◌*◌, ◌<◌, ◌≤◌, Bool, true, false, cond, leb, ◌⊎◌, List, [], ◌∷◌, length, None, count_by, ap, subst, ⊎_elim, mul-le-mul_right, arith}
-use Rattle.std.specs.List.{AllByRecursion as All}
+use Rattle.std.specs.List.{AllByRecursion}
 use Rattle.std.proofs.lemmas.List.{length-take}
 use Rattle.std.proofs.ByRecursion.{All-weaker}
 use Rattle.std.proofs.lemmas.Bool.{cases_Bool, cases_lt, le-leb, lt-leb}
@@ -25,7 +25,7 @@ use Rattle.rules.specs.Accounts.{NothingLost, InOrder, Proper, AllProper, HoldsF
 use Rattle.rules.proofs.Rows.{Ranges, ranges_at}
 
 -- what follows from two facts of each element
-pub all_both : {X : Type 0} (P Q R : X → Type 0) → ((x : X) → P x → Q x → R x) → (xs : List X) → All P xs → All Q xs → All R xs
+pub all_both : {X : Type 0} (P Q R : X → Type 0) → ((x : X) → P x → Q x → R x) → (xs : List X) → AllByRecursion P xs → AllByRecursion Q xs → AllByRecursion R xs
 all_both P Q R f [] a b = tt
 all_both P Q R f (x ∷ xs) a b = (f x a.0 b.0, all_both P Q R f xs a.1 b.1)
 
@@ -72,7 +72,7 @@ pub record Kept (rows : List Row) (n : ℕ) (s : State) : Type 0 where
 
 -- no pending job has its deadline at or before the clock
 abbrev pub Unmissed : State → Type 0
-Unmissed s = All (λ j. s.clock < j.key) (pending s)
+Unmissed s = AllByRecursion (λ j. s.clock < j.key) (pending s)
 
 -- what holds of a bench after every call: unless it is stopped, nothing is late
 pub record Sound (rows : List Row) (s : State) : Type 0 where
@@ -110,7 +110,7 @@ pub record Found (rows : List Row) (P : Job → Type 0) (i m : ℕ) : Type 0 whe
   pub holds : P job
 
 -- a job that is released and not done is pending, with its key and all that holds of pending jobs
-pub found : (rows : List Row) (s : State) → AllProper rows s → InOrder rows s → (P : Job → Type 0) → All P (pending s)
+pub found : (rows : List Row) (s : State) → AllProper rows s → InOrder rows s → (P : Job → Type 0) → AllByRecursion P (pending s)
     → (i m : ℕ) → 1 ≤ i → i ≤ length rows → (task_at i s.tasks).done < m → m ≤ (task_at i s.tasks).released → Found rows P i m
 found rows s proper order P all i m low high undone out =
     let x = some_passes (is_job i m) (λ j. Proper rows s j × P j) (pending s) (omega (arith, order i m low high undone out))

@@ -1,6 +1,6 @@
 -- The laws of every run, from what every call keeps.
 use Rattle.std.proofs.Common.{◌≡◌, ℕ, suc, ◌+◌, ◌-◌, ◌<◌, ◌≤◌, true, false, eqb, ◌⊎◌, List, [], ◌∷◌, length, Ok, count_by, sym, ap, ◌∙◌, subst, inl, inr, ⊎_elim, add-one, arith}
-use Rattle.std.specs.List.{AllByRecursion as All}
+use Rattle.std.specs.List.{AllByRecursion}
 use Rattle.std.proofs.ByRecursion.{All-weaker}
 use Rattle.std.proofs.lemmas.Bool.{cases_lt, ne_eqb, and_left}
 use Rattle.sheet.specs.declared.row.Row.{Row}
@@ -42,7 +42,7 @@ module _ (rows : List Row) (ok : Ruled rows) (s : State) (sound : Sound rows s) 
   on_time i low high = kept.times i low high ∙ ap (releases_before (row_at i rows)) (seen_above 0 i s.clock low)
 
   -- a number that is no task's has no pending jobs
-  strangers : (i : ℕ) → (i < 1) ⊎ (length rows < i) → All (λ j. of_task i j ≡ false) (pending s)
+  strangers : (i : ℕ) → (i < 1) ⊎ (length rows < i) → AllByRecursion (λ j. of_task i j ≡ false) (pending s)
   strangers i out = All-weaker (Proper rows s) (λ j. of_task i j ≡ false) (λ j p. ne_eqb j.task i (λ e. never j p e out)) (pending s) kept.proper
     where
       never : (j : Job) → Proper rows s j → j.task ≡ i → (i < 1) ⊎ (length rows < i) → ⊥
@@ -128,14 +128,14 @@ module _ (rows : List Row) (ok : Ruled rows) (s : State) (sound : Sound rows s) 
 
   pub urgent : MostUrgentRuns rows s
   urgent j holds js empty turn =
-      subst (λ (h : Hand). All (λ k. before k j ≡ false) (pending_of h (released rows s).waiting)) (sym (released_hand rows s))
+      subst (λ (h : Hand). AllByRecursion (λ k. before k j ≡ false) (pending_of h (released rows s).waiting)) (sym (released_hand rows s))
       (first s.hand (released rows s).waiting empty (releases_sorted rows (length rows) s kept.sorted) turn)
     where
-      first : (h : Hand) (w : List Job) → h ≡ Empty → Sorted before w → turn_of h w ≡ runs j holds js → All (λ k. before k j ≡ false) (pending_of h w)
+      first : (h : Hand) (w : List Job) → h ≡ Empty → Sorted before w → turn_of h w ≡ runs j holds js → AllByRecursion (λ k. before k j ≡ false) (pending_of h w)
       first (Holding k m) w x sorted e = let z : ◌≡◌ {A = ℕ} 0 1 = cc in absurd (omega arith)
       first Empty [] x sorted e = let z : ◌≡◌ {A = ℕ} 0 1 = cc in absurd (omega arith)
       first Empty (k ∷ ks) x sorted e =
-          let z : k ≡ j = cc in subst (λ (y : Job). All (λ i. before i y ≡ false) (k ∷ ks)) z (before_self k, sorted.0)
+          let z : k ≡ j = cc in subst (λ (y : Job). AllByRecursion (λ i. before i y ≡ false) (k ∷ ks)) z (before_self k, sorted.0)
 
   pub puts_accepted : PutsAcceptedIfRunning rows s
   puts_accepted going = record {

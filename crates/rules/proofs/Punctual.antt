@@ -1,6 +1,6 @@
 -- A table whose demand is bounded never misses a deadline, and so an admitted table never does.
 use Rattle.std.proofs.Common.{◌≡◌, ℕ, zero, suc, ◌+◌, ◌<◌, ◌≤◌, Bool, true, false, cond, eqb, List, [], ◌∷◌, length, Some, None, Option, refl, ap, ⊎_elim, arith}
-use Rattle.std.specs.List.{AllByRecursion as All}
+use Rattle.std.specs.List.{AllByRecursion}
 use Rattle.std.proofs.lemmas.List.Sums.{sum_by-cons}
 use Rattle.std.proofs.lemmas.Bool.{cases_lt, lt-leb}
 use Rattle.sheet.specs.declared.row.Row.{Row}
@@ -28,7 +28,7 @@ use Rattle.rules.proofs.Room.{Live, after_releases}
 use Rattle.rules.proofs.Turns.{HasRoom, after_tick}
 
 -- where no pending work is due by t, no pending job is
-none_due : (rows : List Row) (t : ℕ) (js : List Job) → All (Live rows t) js → work_by t js ≡ 0 → All (λ j. t < j.key) js
+none_due : (rows : List Row) (t : ℕ) (js : List Job) → AllByRecursion (Live rows t) js → work_by t js ≡ 0 → AllByRecursion (λ j. t < j.key) js
 none_due rows t [] a z = tt
 none_due rows t (j ∷ js) a z =
     let sum = sum_by-cons (left_by t) j js in
@@ -37,7 +37,7 @@ none_due rows t (j ∷ js) a z =
 not_late : (t : ℕ) (j : Job) → t < j.key → late_at t (Some j) ≡ None
 not_late t j h = ap (λ (b : Bool). cond b (Some j) None) (lt-leb j.key t h)
 
-no_miss : (t : ℕ) (hand : Hand) (waiting : List Job) → All (λ j. t < j.key) (pending_of hand waiting) → late_at t (most_urgent hand waiting) ≡ None
+no_miss : (t : ℕ) (hand : Hand) (waiting : List Job) → AllByRecursion (λ j. t < j.key) (pending_of hand waiting) → late_at t (most_urgent hand waiting) ≡ None
 no_miss t Empty [] a = refl
 no_miss t Empty (j ∷ js) a = not_late t j a.0
 no_miss t (Holding j holds) [] a = not_late t j a.0

@@ -1,6 +1,6 @@
 -- The releases of a step keep what every call keeps, and none of their puts is refused where nothing is late.
 use Rattle.std.proofs.Common.{◌≡◌, ℕ, zero, suc, ◌+◌, ◌-◌, ◌<◌, ◌≤◌, Bool, true, false, cond, eqb, ◌⊎◌, List, length, Ok, count_by, sym, refl, ap, ◌∙◌, subst, inl, inr, ⊎_elim, arith}
-use Rattle.std.specs.List.{AllByRecursion as All}
+use Rattle.std.specs.List.{AllByRecursion}
 use Rattle.std.proofs.ByRecursion.{All-weaker}
 use Rattle.std.proofs.lemmas.Bool.{cases_eq, cases_lt, cases_order, eqb-true, eqb-false, eq-eqb, ne_eqb, and_left, and_right, and_from}
 use Rattle.sheet.specs.declared.row.Row.{Row}
@@ -28,12 +28,12 @@ pub waiting_le : (p : Job → Bool) (h : Hand) (js : List Job) → count_by p js
 waiting_le p Empty js = omega arith
 waiting_le p (Holding j holds) js = omega (arith, count_by_cons p j js)
 
-pub all_waiting : (P : Job → Type 0) (h : Hand) (js : List Job) → All P (pending_of h js) → All P js
+pub all_waiting : (P : Job → Type 0) (h : Hand) (js : List Job) → AllByRecursion P (pending_of h js) → AllByRecursion P js
 all_waiting P Empty js a = a
 all_waiting P (Holding j holds) js a = a.1
 
 -- the pending jobs after a put
-pub all_pending_put : (P : Job → Type 0) (h : Hand) (j : Job) (js : List Job) → P j → All P (pending_of h js) → All P (pending_of h (put_list j js))
+pub all_pending_put : (P : Job → Type 0) (h : Hand) (j : Job) (js : List Job) → P j → AllByRecursion P (pending_of h js) → AllByRecursion P (pending_of h (put_list j js))
 all_pending_put P Empty j js p a = all_put j js P p a
 all_pending_put P (Holding k holds) j js p a = (a.0, all_put j js P p a.1)
 
@@ -227,7 +227,7 @@ module _ (rows : List Row) (ok : Ruled rows) (n : ℕ) (in' : n < length rows) (
             (times_then (task_at (suc n) after.tasks).released (omega (arith, raised_here.0, timed, one_more)))
         go (inr x) = x.1 ∙ kept.times l low high ∙ ap (releases_before (row_at l rows)) (seen_other l x.0)
 
-    next_after : (h : Hand) (js : List Job) → All (Proper rows s) (pending_of h js) → NextInHand s.tasks h → NextInHand after.tasks h
+    next_after : (h : Hand) (js : List Job) → AllByRecursion (Proper rows s) (pending_of h js) → NextInHand s.tasks h → NextInHand after.tasks h
     next_after Empty js a x = tt
     next_after (Holding j holds) js a x = go (look j.task a.0.low)
       where

@@ -1,6 +1,6 @@
 -- The invariant of a run: up to every time there is room for the work that is due by then. Releases keep it.
 use Rattle.std.proofs.Common.{◌≡◌, ℕ, zero, suc, ◌+◌, ◌-◌, ◌*◌, ◌<◌, ◌≤◌, max, Bool, true, false, cond, List, length, sym, refl, ap, ◌∙◌, subst, arith}
-use Rattle.std.specs.List.{AllByRecursion as All}
+use Rattle.std.specs.List.{AllByRecursion}
 use Rattle.std.proofs.lemmas.List.Sums.{sum_by-cons}
 use Rattle.std.proofs.lemmas.Bool.{eqb-true}
 use Rattle.sheet.specs.declared.row.Row.{Row}
@@ -33,7 +33,7 @@ all_work rows d from tasks waiting hand = work_by d (pending_of hand waiting) + 
 -- at clock t, with releases still to come from `from` on: every time below m by which any work is due has room for all of it and for a hold
 pub record Room (rows : List Row) (m t from : ℕ) (tasks : List TaskCounts) (waiting : List Job) (hand : Hand) : Type 0 where
   pub counted : length tasks ≡ length rows
-  pub live : All (Live rows t) (pending_of hand waiting)
+  pub live : AllByRecursion (Live rows t) (pending_of hand waiting)
   pub held : Holds rows hand
   pub sorted : Sorted before waiting
   pub room : (d : ℕ) → d < m → 0 < all_work rows d from tasks waiting hand
@@ -45,7 +45,7 @@ pub record Through (rows : List Row) (s : State) (n : ℕ) (r : State) : Type 0 
   pub hand : r.hand ≡ s.hand
   pub counted : length r.tasks ≡ length rows
   pub others : (i : ℕ) → n < i → task_at i r.tasks ≡ task_at i s.tasks
-  pub live : All (Live rows r.clock) r.waiting
+  pub live : AllByRecursion (Live rows r.clock) r.waiting
   pub sorted : Sorted before r.waiting
   -- what the releases put into the list they took from what was to come
   pub moved : (d : ℕ) → work_by d r.waiting + ahead_by rows (earliest rows r.tasks) d (r.clock + 1) n
@@ -117,7 +117,7 @@ module _ (rows : List Row) (s : State) (n : ℕ) (r : State) (fine : (i : ℕ) �
     }
 
 pub through : (rows : List Row) (s : State) (n : ℕ) → ((i : ℕ) → Ranges (row_at i rows)) → n ≤ length rows
-    → length s.tasks ≡ length rows → All (Live rows s.clock) s.waiting → Sorted before s.waiting
+    → length s.tasks ≡ length rows → AllByRecursion (Live rows s.clock) s.waiting → Sorted before s.waiting
     → Through rows s n (releases rows n s)
 through rows s zero fine h counted live sorted = record {
   clock = refl;
@@ -136,7 +136,7 @@ through rows s (suc n) fine h counted live sorted = go (due rows (suc n) (releas
     go false now t = without rows s n (releases rows n s) fine t
 
 -- the hand beside the waiting list
-with_waiting : (P : Job → Type 0) (hand : Hand) (js ks : List Job) → All P (pending_of hand js) → All P ks → All P (pending_of hand ks)
+with_waiting : (P : Job → Type 0) (hand : Hand) (js ks : List Job) → AllByRecursion P (pending_of hand js) → AllByRecursion P ks → AllByRecursion P (pending_of hand ks)
 with_waiting P Empty js ks a b = b
 with_waiting P (Holding j holds) js ks a b = (a.0, b)
 

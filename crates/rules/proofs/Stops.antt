@@ -1,6 +1,6 @@
 -- A bench is stopped by a late job, and by nothing else.
 use Rattle.std.proofs.Common.{◌≡◌, ℕ, ◌-◌, ◌<◌, ◌≤◌, Bool, true, false, cond, leb, ◌⊎◌, List, [], ◌∷◌, Some, None, Option, sym, refl, ◌∙◌, subst, inl, inr, arith}
-use Rattle.std.specs.List.{ContainsAt as Has, AllByRecursion as All}
+use Rattle.std.specs.List.{ContainsAt, AllByRecursion}
 use Rattle.std.proofs.ByRecursion.{all-has, All-weaker}
 use Rattle.std.proofs.lemmas.Bool.{leb-true}
 use Rattle.sheet.specs.declared.row.Row.{Row}
@@ -33,7 +33,7 @@ late_key t k j = go (leb k.key t) refl
     go false e h = let z : ◌≡◌ {A = ℕ} 0 1 = cc in absurd (omega arith)
 
 abbrev LateIn : ℕ → List Job → Job → Type 0
-LateIn t js j = Has js j × ((j.key ≤ t) × All (λ k. before k j ≡ false) js)
+LateIn t js j = ContainsAt js j × ((j.key ≤ t) × AllByRecursion (λ k. before k j ≡ false) js)
 
 -- the most urgent job among hand and list, where the list is in order
 late_in : (t : ℕ) (h : Hand) (js : List Job) (j : Job) → Sorted before js → late_at t (most_urgent h js) ≡ Some j → LateIn t (pending_of h js) j

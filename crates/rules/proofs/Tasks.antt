@@ -1,6 +1,6 @@
 -- The counts of the tasks, by task, through a release and a tick.
 use Rattle.std.proofs.Common.{◌≡◌, ℕ, zero, suc, ◌+◌, ◌-◌, ◌≤◌, ◌⊎◌, List, length, get_or, set, replicate, sum_by, sym, refl, ap, ◌∙◌, subst, inl, inr, arith}
-use Rattle.std.specs.List.{AllByRecursion as All}
+use Rattle.std.specs.List.{AllByRecursion}
 use Rattle.std.proofs.lemmas.List.{length-set, length-replicate, get_or-set_same, get_or-set_other}
 use Rattle.std.proofs.lemmas.List.Sums.{sum_by-set, sum_by-cons}
 use Rattle.std.proofs.lemmas.Bool.{cases_eq}
@@ -109,7 +109,7 @@ opened_sum f z zero = refl
 opened_sum f z (suc n) = sum_by-cons f no_counts (replicate n no_counts) ∙ omega (arith, opened_sum f z n)
 
 -- what holds of each task's counts, by task and by list
-pub all_tasks : (P : TaskCounts → Type 0) (tasks : List TaskCounts) → ((i : ℕ) → 1 ≤ i → i ≤ length tasks → P (task_at i tasks)) → All P tasks
+pub all_tasks : (P : TaskCounts → Type 0) (tasks : List TaskCounts) → ((i : ℕ) → 1 ≤ i → i ≤ length tasks → P (task_at i tasks)) → AllByRecursion P tasks
 all_tasks P tasks f =
     All-from_get_or P tasks no_counts
     (λ k h. let e : k + 1 - 1 ≡ k = omega arith in subst (λ (n : ℕ). P (get_or tasks n no_counts)) e (f (k + 1) (omega arith) (omega arith)))

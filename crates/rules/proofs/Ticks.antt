@@ -1,6 +1,6 @@
 -- A tick keeps what every call keeps, puts back without a refusal, and stops the bench where a job is late.
 use Rattle.std.proofs.Common.{◌≡◌, ℕ, zero, suc, ◌+◌, ◌-◌, ◌<◌, ◌≤◌, Bool, true, false, cond, eqb, ltb, leb, ◌⊎◌, List, [], ◌∷◌, length, Some, None, Ok, count_by, sym, refl, ap, ◌∙◌, subst, inl, inr, ⊎_elim, arith}
-use Rattle.std.specs.List.{AllByRecursion as All}
+use Rattle.std.specs.List.{AllByRecursion}
 use Rattle.std.proofs.ByRecursion.{All-weaker}
 use Rattle.std.proofs.lemmas.Bool.{cases_lt, cases_Bool, eqb-false, ltb-true, leb-false, eq-eqb, ne_eqb, and_from, both_ways}
 use Rattle.sheet.specs.declared.row.Row.{Row}
@@ -48,7 +48,7 @@ turn_sorted Empty (k ∷ ks) j holds js e s = let z : ks ≡ js = cc in subst (S
 
 -- a job of a sorted list before which none comes is the first of its task that is not done
 first_is_next : (rows : List Row) (ok : Ruled rows) (s : State) → AllProper rows s → InOrder rows s → (j : Job)
-    → Proper rows s j → All (λ k. before k j ≡ false) (pending s) → j.number ≡ (task_at j.task s.tasks).done + 1
+    → Proper rows s j → AllByRecursion (λ k. before k j ≡ false) (pending s) → j.number ≡ (task_at j.task s.tasks).done + 1
 first_is_next rows ok s proper order j p least =
     ⊎_elim
     (λ lt. absurd (
@@ -72,8 +72,8 @@ turn_next' rows ok s proper order Empty [] x sorted next j holds js e = let z : 
 turn_next' rows ok s proper order Empty (k ∷ ks) x sorted next j holds js e =
     let z : k ≡ j = cc in
     subst (λ (y : Job). y.number ≡ (task_at y.task s.tasks).done + 1) z
-    (first_is_next rows ok s proper order k (subst (All (Proper rows s)) x proper).0
-    (subst (All (λ y. before y k ≡ false)) (sym x) (before_self k, sorted.0)))
+    (first_is_next rows ok s proper order k (subst (AllByRecursion (Proper rows s)) x proper).0
+    (subst (AllByRecursion (λ y. before y k ≡ false)) (sym x) (before_self k, sorted.0)))
 
 -- the job that runs is the first of its task that is not done
 pub turn_next : (rows : List Row) → Ruled rows → (n : ℕ) (s : State) → Kept rows n s
@@ -142,7 +142,7 @@ count_after_run p Held j left holds most js t same fits =
 count_after_run p Idle j left holds most js t same fits = absurd t
 
 pub all_after_run : (P : Job → Type 0) (e : Event) (j : Job) (left holds most : ℕ) (js : List Job) → Tells e left holds most
-    → (1 ≤ left → one_done e ≡ 0 → P j) → All P js → All P (pending_after e j holds js)
+    → (1 ≤ left → one_done e ≡ 0 → P j) → AllByRecursion P js → AllByRecursion P (pending_after e j holds js)
 all_after_run P Done j left holds most js t p a = a
 all_after_run P PutBack j left holds most js t p a = all_put j js P (p t refl) a
 all_after_run P Held j left holds most js t p a = (p t.0 refl, a)
@@ -178,8 +178,8 @@ module _ (rows : List Row) (ok : Ruled rows) (s : State) (kept : Kept rows (leng
     split : pending s ≡ j ∷ js
     split = turn_pending s.hand s.waiting j holds js turn
 
-    all_proper : All (Proper rows s) (j ∷ js)
-    all_proper = subst (All (Proper rows s)) split kept.proper
+    all_proper : AllByRecursion (Proper rows s) (j ∷ js)
+    all_proper = subst (AllByRecursion (Proper rows s)) split kept.proper
 
     is_next : j.number ≡ (task_at j.task s.tasks).done + 1
     is_next = turn_next rows ok (length rows) s kept j holds js turn
@@ -390,17 +390,17 @@ not_late t j = go (leb j.key t) refl
     go true e h = let z : ◌≡◌ {A = ℕ} 0 1 = cc in absurd (omega arith)
     go false e h = leb-false j.key t e
 
-sorted_unmissed : (t : ℕ) (j : Job) (js : List Job) → t < j.key → Sorted before (j ∷ js) → All (λ k. t < k.key) (j ∷ js)
+sorted_unmissed : (t : ℕ) (j : Job) (js : List Job) → t < j.key → Sorted before (j ∷ js) → AllByRecursion (λ k. t < k.key) (j ∷ js)
 sorted_unmissed t j js h s =
     (h, All-weaker (λ k. before k j ≡ false) (λ k. t < k.key) (λ k e. omega (arith, least_key j k e)) js s.0)
 
-unmissed_by : (t : ℕ) (h : Hand) (js : List Job) → Sorted before js → late_at t (most_urgent h js) ≡ None → All (λ k. t < k.key) (pending_of h js)
+unmissed_by : (t : ℕ) (h : Hand) (js : List Job) → Sorted before js → late_at t (most_urgent h js) ≡ None → AllByRecursion (λ k. t < k.key) (pending_of h js)
 unmissed_by t Empty [] s e = tt
 unmissed_by t Empty (j ∷ js) s e = sorted_unmissed t j js (not_late t j e) s
 unmissed_by t (Holding j holds) [] s e = (not_late t j e, tt)
 unmissed_by t (Holding j holds) (k ∷ ks) s e = go (before k j) refl (not_late t (urgent_of j (Some k)) e)
   where
-    go : (b : Bool) → before k j ≡ b → t < (cond b k j).key → All (λ y. t < y.key) (j ∷ k ∷ ks)
+    go : (b : Bool) → before k j ≡ b → t < (cond b k j).key → AllByRecursion (λ y. t < y.key) (j ∷ k ∷ ks)
     go true x h = (omega (arith, least_key k j (before_one_way k j x)), sorted_unmissed t k ks h s)
     go false x h = (h, sorted_unmissed t k ks (omega (arith, least_key j k x)) s)
 

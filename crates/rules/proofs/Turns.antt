@@ -1,6 +1,6 @@
 -- A tick keeps the room.
 use Rattle.std.proofs.Common.{◌≡◌, ℕ, zero, suc, ◌+◌, ◌-◌, ◌<◌, ◌≤◌, Bool, true, false, cond, eqb, ltb, leb, List, [], ◌∷◌, length, refl, ◌∙◌, arith}
-use Rattle.std.specs.List.{AllByRecursion as All}
+use Rattle.std.specs.List.{AllByRecursion}
 use Rattle.std.proofs.ByRecursion.{All-weaker}
 use Rattle.std.proofs.lemmas.List.Sums.{sum_by-cons}
 use Rattle.std.proofs.lemmas.Bool.{leb-true, leb-false, ltb-true, eqb-false}
@@ -52,7 +52,7 @@ event_fits hold left holds most = go (eqb left 0) (ltb holds most) refl refl
 
 -- what follows of the job and the list that it leaves
 after_live : (rows : List Row) (t holds most : ℕ) (e : Event) (j : Job) (js : List Job) → Fits e j.left holds most
-    → j.key ≤ t + (row_at j.task rows).deadline → All (Live rows t) js → All (Live rows t) (pending_of (hand_after e j holds) (waiting_after e j js))
+    → j.key ≤ t + (row_at j.task rows).deadline → AllByRecursion (Live rows t) js → AllByRecursion (Live rows t) (pending_of (hand_after e j holds) (waiting_after e j js))
 after_live rows t holds most PutBack j js f k a = all_put j js (Live rows t) (f, k) a
 after_live rows t holds most Held j js f k a = ((f.0, k), a)
 after_live rows t holds most Done j js f k a = a
@@ -91,7 +91,7 @@ after_far rows d holds Idle j = omega arith
 
 -- a job runs for a tick: from the two cases of a time, by which the job is due or past which it is due
 ran : (rows : List Row) (m t holds : ℕ) (e : Event) (tasks : List TaskCounts) (j : Job) (js : List Job)
-    → length tasks ≡ length rows → Live rows t j → Fits e (j.left - 1) holds (row_at j.task rows).hold → All (Live rows t) js → Sorted before js
+    → length tasks ≡ length rows → Live rows t j → Fits e (j.left - 1) holds (row_at j.task rows).hold → AllByRecursion (Live rows t) js → Sorted before js
     → ((d : ℕ) → d < m → 0 < left_by d j + work_by d js + ahead_by rows (earliest rows tasks) d (t + 1) (length rows)
     → left_by d j + work_by d js + ahead_by rows (earliest rows tasks) d (t + 1) (length rows) + t ≤ d)
     → ((d : ℕ) → d < m → d < j.key → 0 < work_by d js + ahead_by rows (earliest rows tasks) d (t + 1) (length rows)

@@ -1,6 +1,6 @@
 -- The work that is due by a time: what pends of it, what is still to come, and how long a hold can keep it waiting.
 use Rattle.std.proofs.Common.{◌≡◌, ℕ, zero, suc, ◌+◌, ◌-◌, ◌<◌, ◌≤◌, max, Bool, true, false, cond, leb, List, [], ◌∷◌, length, get_or, take, set, sum_by, refl, ap, subst, add-one, arith}
-use Rattle.std.specs.List.{AllByRecursion as All}
+use Rattle.std.specs.List.{AllByRecursion}
 use Rattle.std.proofs.lemmas.List.{take_all}
 use Rattle.std.proofs.lemmas.List.Sums.{sum_by-cons, sum_by_more}
 use Rattle.std.proofs.lemmas.Bool.{lt-leb, le-leb}
@@ -64,7 +64,7 @@ hold_most rows d j holds = go (leb j.key d)
     go false = omega arith
 
 -- behind a job that is due past d nothing is due by d
-pub work_behind : (d : ℕ) (j : Job) (js : List Job) → d < j.key → All (λ k. before k j ≡ false) js → work_by d js ≡ 0
+pub work_behind : (d : ℕ) (j : Job) (js : List Job) → d < j.key → AllByRecursion (λ k. before k j ≡ false) js → work_by d js ≡ 0
 work_behind d j [] h a = refl
 work_behind d j (k ∷ ks) h a =
     let late : d < k.key = omega (arith, least_key j k a.0) in

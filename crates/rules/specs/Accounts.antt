@@ -1,6 +1,6 @@
 -- Laws of every run that a reader of the field would name without having seen the step.
 use Rattle.std.specs.Prelude.{◌≡◌, ℕ, ◌+◌, ◌-◌, ◌*◌, ◌^◌, ◌<◌, ◌≤◌, Bool, true, false, cond, List, [], length, Some, None, Ok, sum_by, count_by, ◌==◌}
-use Rattle.std.specs.List.{ContainsAt as Has, AllByRecursion as All}
+use Rattle.std.specs.List.{ContainsAt, AllByRecursion}
 use Rattle.sheet.specs.declared.row.Row.{Row}
 use Rattle.sheet.specs.declared.table.Table.{Table}
 use Rattle.sheet.specs.Rows.{units}
@@ -54,7 +54,7 @@ pub record Proper (rows : List Row) (s : State) (j : Job) : Type 0 where
   pub most : j.left ≤ units (row_at j.task rows)
 
 abbrev pub AllProper : List Row → State → Type 0
-AllProper rows s = All (Proper rows s) (pending s)
+AllProper rows s = AllByRecursion (Proper rows s) (pending s)
 
 -- the waiting list is one that a queue can have
 abbrev pub WaitingLawful : List Row → State → Type 0
@@ -95,7 +95,7 @@ Unended First = Unit {0}
 
 -- no call is a step with the letter f
 abbrev pub NoneEnded : List Call → Type 0
-NoneEnded calls = All Unended calls
+NoneEnded calls = AllByRecursion Unended calls
 
 -- and exactly that where nothing was ended early
 abbrev pub GivenExactly : Type 0
@@ -113,13 +113,13 @@ IdleOnlyIfNothingPends rows s =
 abbrev pub MostUrgentRuns : List Row → State → Type 0
 MostUrgentRuns rows s =
     (j : Job) (holds : ℕ) (js : List Job) → s.hand ≡ Empty
-    → turn_of s.hand (released rows s).waiting ≡ runs j holds js → All (λ k. before k j ≡ false) (pending (released rows s))
+    → turn_of s.hand (released rows s).waiting ≡ runs j holds js → AllByRecursion (λ k. before k j ≡ false) (pending (released rows s))
 
 -- the job is pending, its deadline has come, and no pending job is more urgent
 pub record Late (s : State) (j : Job) : Type 0 where
-  pub pends : Has (pending s) j
+  pub pends : ContainsAt (pending s) j
   pub due : j.key ≤ s.clock
-  pub first : All (λ k. before k j ≡ false) (pending s)
+  pub first : AllByRecursion (λ k. before k j ≡ false) (pending s)
 
 -- the miss of a stopped bench is such a job
 abbrev pub MissIsLate : List Row → State → Type 0
@@ -151,5 +151,5 @@ pub record NumbersFit (rows : List Row) (s : State) : Type 0 where
   pub idle : s.counts.idle ≤ s.clock
   pub begun : s.counts.begun ≤ s.clock
   pub interruptions : s.counts.interruptions ≤ s.clock
-  pub tasks : All (FitsTask s) s.tasks
-  pub jobs : All FitsJob (pending s)
+  pub tasks : AllByRecursion (FitsTask s) s.tasks
+  pub jobs : AllByRecursion FitsJob (pending s)

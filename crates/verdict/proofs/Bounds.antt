@@ -1,7 +1,7 @@
 -- The ranges of a table's rows, and how large the numbers of the test become.
 use Rattle.std.proofs.Common.{◌≡◌, ℕ, ◌+◌, ◌-◌, ◌*◌, ◌/◌, ◌^◌, ◌<◌, ◌≤◌, true, List, [], ◌∷◌, length, get_or, drop, sum_by, le_trans, mul-le-mul_right, mul-le-mul_left, arith}
 use native.Mathlib.Nat.{mul-div-le}
-use Rattle.std.specs.List.{AllByRecursion as All}
+use Rattle.std.specs.List.{AllByRecursion}
 use Rattle.std.proofs.ByRecursion.{All-drop, All-get_or, All-weaker, sum_by_le}
 use Rattle.std.proofs.lemmas.List.Sums.{sum_by-take-le}
 use Rattle.std.proofs.lemmas.Bool.{and_parts, eqb-true}
@@ -40,30 +40,30 @@ lawful_in_range before r e =
     let kept : intact (broken before r) ≡ true = (and_parts _ _ e).0 in
     ruled r (grind (arith, nat_tests)) (grind (arith, nat_tests)) (eqb-true _ _ (and_parts _ _ e).1) (grind (arith, nat_tests)) (grind (arith, nat_tests)) (grind (arith, nat_tests))
 
-pub rows_in_range : (before : ℕ) (rows : List Row) → lawful_after before rows ≡ true → All InRange rows
+pub rows_in_range : (before : ℕ) (rows : List Row) → lawful_after before rows ≡ true → AllByRecursion InRange rows
 rows_in_range before [] s = tt
 rows_in_range before (r ∷ rows) s = (lawful_in_range before r (and_parts _ _ s).0, rows_in_range r.deadline rows (and_parts _ _ s).1)
 
 pub row_in_range : (rows : List Row) (i : ℕ) (z : Row) → lawful_after 0 rows ≡ true → i < length rows → InRange (get_or rows i z)
 row_in_range rows i z lawful inside = All-get_or InRange rows i z inside (rows_in_range 0 rows lawful)
 
-longest_most : (rows : List Row) → All InRange rows → longest_hold rows ≤ cycle
+longest_most : (rows : List Row) → AllByRecursion InRange rows → longest_hold rows ≤ cycle
 longest_most [] a = omega arith
 longest_most (r ∷ rows) a =
     let h : longest_hold rows ≤ cycle = longest_most rows a.1 in
     let k : r.hold ≤ cycle = a.0.held in
     omega arith
 
-pub blocking_most : (k : ℕ) (rows : List Row) → All InRange rows → blocking_after k rows ≤ cycle
+pub blocking_most : (k : ℕ) (rows : List Row) → AllByRecursion InRange rows → blocking_after k rows ≤ cycle
 blocking_most k rows a = longest_most (drop k rows) (All-drop InRange k rows a)
 
-pub load_to_most : (k : ℕ) (rows : List Row) → All InRange rows → length rows ≤ 32 → load_to k rows ≤ most_load
+pub load_to_most : (k : ℕ) (rows : List Row) → AllByRecursion InRange rows → length rows ≤ 32 → load_to k rows ≤ most_load
 load_to_most k rows a few =
     let part : load_to k rows ≤ sum_by load rows = sum_by-take-le load rows k in
     let whole : sum_by load rows ≤ length rows * cycle = sum_by_le load cycle rows (All-weaker InRange (λ r. load r ≤ cycle) load_most rows a) in
     omega arith
 
-pub shortfall_to_most : (k : ℕ) (rows : List Row) → All InRange rows → length rows ≤ 32 → shortfall_to k rows ≤ most_shortfall
+pub shortfall_to_most : (k : ℕ) (rows : List Row) → AllByRecursion InRange rows → length rows ≤ 32 → shortfall_to k rows ≤ most_shortfall
 shortfall_to_most k rows a few =
     let part : shortfall_to k rows ≤ sum_by shortfall rows = sum_by-take-le shortfall rows k in
     let whole : sum_by shortfall rows ≤ length rows * (cycle * cycle) = sum_by_le shortfall (cycle * cycle) rows (All-weaker InRange (λ r. shortfall r ≤ cycle * cycle) shortfall_most rows a) in
@@ -77,6 +77,6 @@ sum_small d s g b near loaded lost held =
 
 pub table_small : (rows : List Row) → lawful_after 0 rows ≡ true → length rows ≤ 32 → Small rows
 table_small rows lawful few k low high =
-    let a : All InRange rows = rows_in_range 0 rows lawful in
+    let a : AllByRecursion InRange rows = rows_in_range 0 rows lawful in
     let near : (row_at k rows).deadline ≤ 4 * cycle = (row_in_range rows (k - 1) blank lawful (omega arith)).near in
     (sum_small (row_at k rows).deadline (load_to k rows) (shortfall_to k rows) (blocking_after k rows) near (load_to_most k rows a few) (shortfall_to_most k rows a few) (blocking_most k rows a), omega arith)
