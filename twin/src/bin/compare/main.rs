@@ -156,6 +156,6 @@ fn compare<C: Coverage>(
 fn product_program() -> PathBuf {
     match env::var_os("DUTY_BENCH") {
         Some(path) => path.into(),
-        None => Path::new(env!("CARGO_MANIFEST_DIR")).join("../target/bin/bench"),
+        None => Path::new(env!("CARGO_MANIFEST_DIR")).join("../crates/bench/out/bench"),
     }
 }

@@ -231,6 +231,6 @@ fn best_of(
 fn product_program() -> PathBuf {
     match env::var_os("DUTY_BENCH") {
         Some(path) => path.into(),
-        None => Path::new(env!("CARGO_MANIFEST_DIR")).join("../target/bin/bench"),
+        None => Path::new(env!("CARGO_MANIFEST_DIR")).join("../crates/bench/out/bench"),
     }
 }
