@@ -1,5 +1,5 @@
 // A run on letters that come from a reader, with its log going to a writer.
-ghost use Rattle.std.specs.Prelude.{◌≡◌, ℕ, ◌≤◌, List, map, length, take};
+ghost use Rattle.std.specs.Prelude.{◌≡◌, ℕ, List, map, take};
 ghost use Rattle.rules.specs.declared.call.Call.TheVariants.{Step};
 ghost use Rattle.rules.specs.Promises.{Promised};
 ghost use Rattle.rules.specs.Run.{run_from, after_run, closing_of};

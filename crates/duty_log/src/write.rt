@@ -1,5 +1,5 @@
 // Writing lines into a lent buffer.
-ghost use Rattle.std.specs.Prelude.{◌≡◌, ℕ, ◌+◌, ◌≤◌, ◌++◌, length};
+ghost use Rattle.std.specs.Prelude.{◌≡◌, ◌+◌, ◌≤◌, ◌++◌, length};
 ghost use Rattle.duty_log.specs.Lines.{letter_of, tick_bytes, miss_bytes, end_bytes, bytes_of, outcome_bytes, longest};
 ghost use Rattle.duty_log.specs.Texts.{text_bytes};
 ghost use Rattle.duty_log.specs.Written.{Written};
