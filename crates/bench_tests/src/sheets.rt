@@ -32,25 +32,16 @@ fn put(bytes: &mut [u8], at: usize, number: u32) {
     }
 }
 
-// Puts in a row at a place, with a blank label.
-fn put_row(bytes: &mut [u8], at: usize, task: Task) {
+// Puts in a row, with a blank label.
+fn put_row(bytes: &mut [u8], task: Task) {
     let (phase, period, execution, deadline, hold) = task;
-    put(bytes, at, 0x2020_2020);
-    put(bytes, at.wrapping_add(4), 0x2020_2020);
-    put(bytes, at.wrapping_add(8), phase);
-    put(bytes, at.wrapping_add(12), execution);
-    put(bytes, at.wrapping_add(16), deadline);
-    put(bytes, at.wrapping_add(20), hold);
-    put(bytes, at.wrapping_add(24), period.wrapping_mul(65536));
-}
-
-// Puts in the rows one after the other.
-fn put_rows(bytes: &mut [u8], tasks: &[Task]) {
-    let mut at = 16usize;
-    for task in tasks {
-        put_row(bytes, at, *task);
-        at = at.wrapping_add(28);
-    }
+    put(bytes, 0, 0x2020_2020);
+    put(bytes, 4, 0x2020_2020);
+    put(bytes, 8, phase);
+    put(bytes, 12, execution);
+    put(bytes, 16, deadline);
+    put(bytes, 20, hold);
+    put(bytes, 24, period.wrapping_mul(65536));
 }
 
 // Fills in the sheet of these rows, and gives its size.
@@ -60,7 +51,9 @@ pub fn fill(bytes: &mut [u8; 912], tasks: &[Task]) -> usize {
     put(bytes, 0, count as u32 * 65536 + 16);
     put(bytes, 8, 720_720);
     put(bytes, 12, size as u32);
-    put_rows(bytes, tasks);
+    for (row, task) in bytes[16..].chunks_exact_mut(28).zip(tasks) {
+        put_row(row, *task);
+    }
     size.min(912)
 }
 

@@ -3,7 +3,7 @@ use Rattle.std.specs.Prelude.{ℕ, List, [], map, Ok, Err, Result}
 use Rattle.sheet.specs.declared.row.Row.{Row}
 use Rattle.sheet.specs.declared.fault.Fault.{Fault}
 use Rattle.sheet.specs.Sheet.{sheet_of}
-use Rattle.verdict.specs.Test.{verdict_of, number_of as verdict_number}
+use Rattle.verdict.specs.Test.{verdict_of}
 use Rattle.duty_log.specs.declared.line.Line.{Line}
 use Rattle.duty_log.specs.declared.line.Line.TheVariants.{Verdict}
 use Rattle.rules.specs.declared.call.Call.TheVariants.{Step}
@@ -17,7 +17,7 @@ rewritten (Err fault) = []
 
 -- the line of the verdict on the rows
 abbrev pub verdict_line : Result (List Row) Fault → Line
-verdict_line (Ok rows) = Verdict (verdict_number (verdict_of rows))
+verdict_line (Ok rows) = Verdict (verdict_of rows)
 verdict_line (Err fault) = fault_line fault
 
 -- the last line of the log of a run on the rows with those letters

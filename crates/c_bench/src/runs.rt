@@ -14,12 +14,12 @@ use duty_bench::open::open;
 use duty_log::line::Line;
 use plain_queue::queue::PlainQueue;
 use program::lines::{fault_line, last_line};
+use program::sheets::judge_sheet;
 use rules::closing::Closing;
-use sheet::table::Table;
-use verdict::judge::judge;
 use verdict::judged::Judged;
 
 // Opens a bench on the judged table, steps with each byte as the character of that number, done or refused, and closes the bench.
+// A loop beside that of `run`, which takes its calls as a list: for that the letters would have to be copied to memory that is asked for.
 fn closed_after(judged: Judged, letters: &[u8]) -> Closing
     ensures rules { result ≡ closing_of (after_run (judged_rows judged) (map Step letters.now)) }
     ensures promised { Promised (judged_rows judged) result }
@@ -35,9 +35,8 @@ fn closed_after(judged: Judged, letters: &[u8]) -> Closing
 fn end_line(sheet: &[u8], letters: &[u8]) -> Line
     ensures { result ≡ end_line letters.now (read_sheet sheet.now) }
 {
-    let mut table = Table::new();
-    match table.read(sheet) {
-        Ok(()) => last_line(&closed_after(judge(table), letters)),
+    match judge_sheet(sheet) {
+        Ok(judged) => last_line(&closed_after(judged, letters)),
         Err(fault) => fault_line(fault),
     }
 }

@@ -6,9 +6,12 @@ ghost use Rattle.c_bench.specs.Filled.{Filled};
 ghost use Rattle.c_bench.specs.Lines.{rewritten, verdict_line};
 
 use duty_log::line::Line;
+use duty_log::logged::Logged;
 use program::lines::fault_line;
+use program::sheets::judge_sheet;
 use sheet::table::Table;
-use verdict::judge::judge;
+
+// In these calls 0 stands for nothing written, since C has no `Option`; a sheet or a line never has 0 bytes.
 
 // Reads a sheet and writes its table again to the front of `out`. Gives the number of bytes,
 // or 0 where the sheet is refused or has no room; then `out` is as it was.
@@ -34,9 +37,8 @@ pub(crate) fn put_line(line: &Line, out: &mut [u8]) -> usize
 fn verdict_line(sheet: &[u8]) -> Line
     ensures { result ≡ verdict_line (read_sheet sheet.now) }
 {
-    let mut table = Table::new();
-    match table.read(sheet) {
-        Ok(()) => Line::Verdict(judge(table).verdict().number()),
+    match judge_sheet(sheet) {
+        Ok(judged) => Line::Verdict(judged.verdict()),
         Err(fault) => fault_line(fault),
     }
 }

@@ -1,5 +1,5 @@
 -- The releases to come: one for each task, in order.
-use Rattle.std.proofs.Common.{◌≡◌, ℕ, zero, suc, ◌+◌, ◌-◌, ◌*◌, ◌<◌, ◌≤◌, Bool, true, false, cond, eqb, List, [], ◌∷◌, map, length, get_or, Some, None, Option, sym, refl, ap, ◌∙◌, subst, ⊎_elim, arith}
+use Rattle.std.proofs.Common.{◌≡◌, ℕ, zero, suc, ◌+◌, ◌-◌, ◌*◌, ◌<◌, ◌≤◌, Bool, true, false, cond, eqb, List, [], ◌∷◌, length, get_or, Some, None, Option, sym, refl, ap, ◌∙◌, subst, ⊎_elim, arith}
 use Rattle.std.specs.List.{AllByRecursion}
 use Rattle.std.proofs.ByRecursion.{All-weaker}
 use Rattle.std.proofs.lemmas.Bool.{cases_eq, eqb-true, eqb-false}
@@ -12,12 +12,14 @@ use Rattle.ready.proofs.Orderings.{placed_foremost, all_ordered, all_from_ordere
 use Rattle.heap.specs.declared.release.Release.{Release}
 use Rattle.heap.specs.declared.releases.Releases.{Releases}
 use Rattle.heap.specs.Coming.{earlier}
-use Rattle.heap.specs.Releases.{coming}
 use Rattle.heap.proofs.EntryKinds.{release_order}
 use Rattle.heap.proofs.Sifting.{never}
 use Rattle.rules.specs.declared.counts.TaskCounts.{TaskCounts}
-use Rattle.rules.specs.State.{no_counts}
-use Rattle.duty_bench.specs.Awaited.{next_time, one_each, pair_of, Awaited, NoneBefore, due_at}
+use Rattle.rules.specs.declared.letter.Letter.{Letter}
+use Rattle.rules.specs.State.{State, no_counts}
+use Rattle.rules.specs.Tick.{Turn, nobody, runs, turn_of, one_done, event_at, after_turn, tick}
+use Rattle.duty_bench.proofs.Updates.{given_tick, part_updated}
+use Rattle.duty_bench.specs.Awaited.{next_time, one_each, Awaits, due_at}
 
 -- What does not change.
 
@@ -26,29 +28,30 @@ same_times : (rows : List Row) (xs ys : List TaskCounts) → ((k : ℕ) → (get
 same_times rows xs ys e j i = (row_at i rows).phase + e (i - 1) j * (row_at i rows).period
 
 -- counts of released jobs that stay leave the releases to come
-pub awaited_kept : (rows rows' : List Row) (xs ys : List TaskCounts) (r r' : Releases) → rows' ≡ rows → r' ≡ r
-    → ((k : ℕ) → (get_or ys k no_counts).released ≡ (get_or xs k no_counts).released) → Awaited rows xs r → Awaited rows' ys r'
-awaited_kept rows rows' xs ys r r' e h k a =
-    ap (λ (x : Releases). map pair_of (coming x)) h ∙ a
-    ∙ ap (λ (f : ℕ → ℕ). map pair_of (ordered earlier (one_each f (length rows)))) (sym (same_times rows xs ys k))
-    ∙ ap (λ (l : List Row). map pair_of (ordered earlier (one_each (next_time l ys) (length l)))) (sym e)
+pub awaits_kept : (rows : List Row) (xs ys : List TaskCounts) (t : ℕ) (r : Releases)
+    → ((k : ℕ) → (get_or ys k no_counts).released ≡ (get_or xs k no_counts).released) → Awaits rows xs t r → Awaits rows ys t r
+awaits_kept rows xs ys t r k a = record {
+  lawful = a.lawful;
+  few = a.few;
+  awaited = a.awaited ∙ ap (λ (f : ℕ → ℕ). ordered earlier (one_each f (length rows))) (sym (same_times rows xs ys k));
+  none_before = λ i low high. subst (λ (f : ℕ → ℕ). t ≤ f i) (sym (same_times rows xs ys k)) (a.none_before i low high);
+}
 
-pub none_before_kept : (rows rows' : List Row) (xs ys : List TaskCounts) (t t' : ℕ) → rows' ≡ rows → t' ≡ t
-    → ((k : ℕ) → (get_or ys k no_counts).released ≡ (get_or xs k no_counts).released) → NoneBefore rows xs t → NoneBefore rows' ys t'
-none_before_kept rows rows' xs ys t t' e h k a =
-    subst (λ (l : List Row). NoneBefore l ys t') (sym e) (subst (NoneBefore rows ys) (sym h)
-    (λ i low high. subst (λ (f : ℕ → ℕ). t ≤ f i) (sym (same_times rows xs ys k)) (a i low high)))
+-- a tick leaves them, and none of those after its clock is before the next
+module _ (rows : List Row) (l : Letter) where
+  turn_released : (t : Turn) (s : State) (k : ℕ) → (get_or (after_turn rows l t s).tasks k no_counts).released ≡ (get_or s.tasks k no_counts).released
+  turn_released nobody s k = refl
+  turn_released (runs j holds js) s k = part_updated no_counts (given_tick (one_done (event_at rows l j holds))) (λ c. c.released) (λ c. refl) s.tasks (j.task - 1) k
 
--- the list of pairs says which list it is
-pub same_pairs : (xs ys : List Release) → map pair_of xs ≡ map pair_of ys → xs ≡ ys
-same_pairs [] [] e = refl
-same_pairs [] (y ∷ ys) e = let z : ◌≡◌ {A = ℕ} 0 1 = cc in absurd (omega arith)
-same_pairs (x ∷ xs) [] e = let z : ◌≡◌ {A = ℕ} 0 1 = cc in absurd (omega arith)
-same_pairs (x ∷ xs) (y ∷ ys) e =
-    let h : ◌≡◌ {A = ℕ × ℕ} (pair_of x) (pair_of y) = cc in
-    let t : map pair_of xs ≡ map pair_of ys = cc in
-    let r : xs ≡ ys = same_pairs xs ys t in
-    λ j. record { time = (h j).0; task = (h j).1 } ∷ r j
+  turn_clock : (t : Turn) (s : State) → (after_turn rows l t s).clock ≡ s.clock + 1
+  turn_clock nobody s = refl
+  turn_clock (runs j holds js) s = refl
+
+  pub awaits_ticked : (s : State) (r : Releases) → Awaits rows s.tasks (s.clock + 1) r → Awaits rows (tick rows l s).state.tasks (tick rows l s).state.clock r
+  awaits_ticked s r a =
+      let t : Turn = turn_of s.hand s.waiting in
+      subst (λ (c : ℕ). Awaits rows (after_turn rows l t s).tasks c r) (sym (turn_clock t s))
+      (awaits_kept rows s.tasks (after_turn rows l t s).tasks (s.clock + 1) r (turn_released t s) a)
 
 -- Lists in order.
 

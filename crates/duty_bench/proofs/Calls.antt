@@ -1,6 +1,6 @@
 -- One call more of a run.
-use Rattle.std.proofs.Common.{◌≡◌, ℕ, ◌+◌, ◌<◌, ◌≤◌, List, [], ◌∷◌, ◌++◌, map, length, get_or, take, drop, sym, refl, ap, ◌∙◌}
-use Rattle.std.proofs.lemmas.List.{at_drop_more, at_drop_all, map_more, map-append}
+use Rattle.std.proofs.Common.{◌≡◌, ℕ, ◌+◌, ◌<◌, List, [], ◌∷◌, ◌++◌, map, length, get_or, take, sym, refl, ap, ◌∙◌}
+use Rattle.std.proofs.lemmas.List.{map_more, map-append}
 use Rattle.sheet.specs.declared.row.Row.{Row}
 use Rattle.rules.specs.declared.call.Call.{Call}
 use Rattle.rules.specs.declared.call.Call.TheVariants.{Step}
@@ -9,18 +9,7 @@ use Rattle.rules.specs.Step.{step}
 use Rattle.rules.specs.Run.{called, run_from}
 use Rattle.rules.proofs.CallsMade.{run_append}
 
-pub next_call : (rows here : List Row) (calls : List Call) (i : ℕ) (d : Call) (s after whole : State) → i < length calls → here ≡ rows
-    → after ≡ called here (get_or calls i d) s → run_from rows (drop i calls) s ≡ whole
-    → run_from rows (drop (i + 1) calls) after ≡ whole
-next_call rows here calls i d s after whole h same e inv =
-    ap (run_from rows (drop (i + 1) calls)) (e ∙ ap (λ r. called r (get_or calls i d) s) same)
-    ∙ sym (at_drop_more (λ cs. run_from rows cs s) calls i d h) ∙ inv
-
-pub all_called : (rows : List Row) (calls : List Call) (i : ℕ) (s whole : State) → length calls ≤ i
-    → run_from rows (drop i calls) s ≡ whole → s ≡ whole
-all_called rows calls i s whole h inv = sym (at_drop_all (λ cs. run_from rows cs s) calls i h) ∙ inv
-
-run_push : (rows : List Row) (calls : List Call) (c : Call) (s : State) → run_from rows (calls ++ c ∷ []) s ≡ called rows c (run_from rows calls s)
+pub run_push : (rows : List Row) (calls : List Call) (c : Call) (s : State) → run_from rows (calls ++ c ∷ []) s ≡ called rows c (run_from rows calls s)
 run_push rows [] c s = refl
 run_push rows (d ∷ calls) c s = run_push rows calls c (called rows d s)
 

@@ -1,5 +1,5 @@
 -- The releases to come at clock 0.
-use Rattle.std.proofs.Common.{◌≡◌, ℕ, suc, ◌+◌, ◌-◌, ◌<◌, ◌≤◌, List, map, length, get_or, replicate, sym, ap, ◌∙◌, add-one, arith}
+use Rattle.std.proofs.Common.{◌≡◌, ℕ, suc, ◌+◌, ◌-◌, ◌<◌, ◌≤◌, List, length, get_or, replicate, sym, ap, ◌∙◌, add-one, arith}
 use Rattle.std.proofs.lemmas.Bool.{lt-leb, cond-false}
 use Rattle.sheet.specs.declared.row.Row.{Row}
 use Rattle.sheet.specs.Rows.{blank}
@@ -14,7 +14,7 @@ use Rattle.rules.specs.declared.counts.TaskCounts.{TaskCounts}
 use Rattle.rules.specs.State.{no_counts}
 use Rattle.rules.specs.Release.{next_release}
 use Rattle.rules.proofs.Tasks.{none_at}
-use Rattle.duty_bench.specs.Awaited.{next_time, one_each, pair_of, Awaited, NoneBefore}
+use Rattle.duty_bench.specs.Awaited.{next_time, one_each, Awaited, NoneBefore}
 use Rattle.duty_bench.proofs.Awaiting.{length_one_each, same_one_each}
 
 -- the first release of each task
@@ -44,9 +44,9 @@ first_time r = omega arith
 pub opened_all : (rows : List Row) (i : ℕ) (r : Releases) → i ≡ length rows → coming r ≡ ordered earlier (one_each (phases rows) i)
     → Awaited rows (replicate 32 no_counts) r
 opened_all rows i r e inv =
-    ap (map pair_of) (inv ∙ ap (λ (n : ℕ). ordered earlier (one_each (phases rows) n)) e
+    inv ∙ ap (λ (n : ℕ). ordered earlier (one_each (phases rows) n)) e
     ∙ ap (ordered earlier) (sym (same_one_each (phases rows) (next_time rows (replicate 32 no_counts)) (length rows)
-    (λ k a b. ap (λ (c : TaskCounts). next_release (row_at k rows) c.released) (none_at 32 (k - 1)) ∙ first_time (row_at k rows)))))
+    (λ k a b. ap (λ (c : TaskCounts). next_release (row_at k rows) c.released) (none_at 32 (k - 1)) ∙ first_time (row_at k rows))))
 
 -- no release is before clock 0
 pub opened_ahead : (rows : List Row) (tasks : List TaskCounts) → NoneBefore rows tasks 0

@@ -1,11 +1,12 @@
 pub mod Updates
-pub mod Picks
 pub mod Works
 pub mod Turns
-pub mod Steps
 pub mod Openings
 pub mod Awaiting
 pub mod Releasing
 pub mod Due
 pub mod FirstReleases
 pub mod Calls
+pub mod Limits
+pub mod Steps
+pub mod Reaching

@@ -1,5 +1,10 @@
 -- One entry of a list changed by a function.
-use Rattle.std.proofs.Common.{◌≡◌, ℕ, zero, suc, List, [], ◌∷◌, get_or, take, set, refl, ap}
+use Rattle.std.proofs.Common.{◌≡◌, ℕ, ◌+◌, zero, suc, List, [], ◌∷◌, get_or, take, set, refl, ap}
+use Rattle.rules.specs.declared.counts.TaskCounts.{TaskCounts}
+
+-- a tick given, and so many jobs done
+abbrev pub given_tick : ℕ → TaskCounts → TaskCounts
+given_tick d k = record { released = k.released; done = k.done + d; given = k.given + 1 }
 
 abbrev pub updated : {X : Type 0} → X → (X → X) → ℕ → List X → List X
 updated d f i xs = set xs i (f (get_or xs i d))

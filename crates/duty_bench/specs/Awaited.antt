@@ -1,6 +1,7 @@
 -- The releases that a bench awaits: the next one of each task.
-use Rattle.std.specs.Prelude.{◌≡◌, ℕ, zero, suc, ◌≤◌, cond, List, [], ◌∷◌, map, length, Some, None, Option, ◌==◌}
+use Rattle.std.specs.Prelude.{◌≡◌, ℕ, zero, suc, ◌≤◌, true, cond, List, [], ◌∷◌, length, Some, None, Option, ◌==◌}
 use Rattle.sheet.specs.declared.row.Row.{Row}
+use Rattle.sheet.specs.Rows.{lawful_after}
 use Rattle.verdict.specs.Test.{row_at}
 use Rattle.ready.specs.Sorted.{ordered}
 use Rattle.ready.specs.Waiting.{first_of}
@@ -21,17 +22,20 @@ abbrev pub one_each : (ℕ → ℕ) → ℕ → List Release
 one_each time zero = []
 one_each time (suc n) = record { time = time (suc n); task = suc n } ∷ one_each time n
 
--- a release as a pair of its time and its task: a type can state an equation of lists of pairs, and not yet of lists of releases
-abbrev pub pair_of : Release → ℕ × ℕ
-pair_of r = (r.time, r.task)
-
 -- the releases to come are the next one of each task, in order
 abbrev pub Awaited : List Row → List TaskCounts → Releases → Type 0
-Awaited rows tasks r = map pair_of (coming r) ≡ map pair_of (ordered earlier (one_each (next_time rows tasks) (length rows)))
+Awaited rows tasks r = coming r ≡ ordered earlier (one_each (next_time rows tasks) (length rows))
 
 -- none of them is before that clock
 abbrev pub NoneBefore : List Row → List TaskCounts → ℕ → Type 0
 NoneBefore rows tasks clock = (i : ℕ) → 1 ≤ i → i ≤ length rows → clock ≤ next_time rows tasks i
+
+-- the releases of a table's rows are awaited, and none of them is before that clock
+pub record Awaits (rows : List Row) (tasks : List TaskCounts) (clock : ℕ) (r : Releases) : Type 0 where
+  pub lawful : lawful_after 0 rows ≡ true
+  pub few : length rows ≤ 32
+  pub awaited : Awaited rows tasks r
+  pub none_before : NoneBefore rows tasks clock
 
 -- the task of a release at that clock
 abbrev pub due_at : ℕ → Option Release → Option ℕ

@@ -2,5 +2,4 @@ pub mod Model
 pub mod Stages
 pub mod Awaited
 pub mod Bounds
-pub mod Answers
-pub mod Examples
+pub mod Reached

@@ -8,26 +8,25 @@ use Rattle.duty_log.specs.declared.line.Event.{Event}
 use Rattle.duty_log.specs.declared.line.Event.TheVariants.{Held, Idle}
 use Rattle.duty_log.specs.declared.line.Tick.{Tick}
 use Rattle.rules.specs.declared.counts.Counts.{Counts}
-use Rattle.rules.specs.declared.hand.Hand.{Hand}
-use Rattle.rules.specs.declared.hand.Hand.TheVariants.{Empty, Holding}
-use Rattle.rules.specs.declared.hand.JobId.{JobId}
+use Rattle.rules.specs.declared.hand.Held.{Held as HeldJob}
+use Rattle.ready.specs.declared.job.JobId.{JobId}
 use Rattle.rules.specs.declared.counts.TaskCounts.{TaskCounts}
 use Rattle.rules.specs.State.{State, task_at}
 use Rattle.duty_bench.specs.declared.stage.Stage.{Stage}
 use Rattle.duty_bench.specs.declared.stage.Stage.TheVariants.{Free, Holding as Keeping, Stopped}
-use Rattle.rules.specs.Tick.{Letter, run, one_if, begins, interrupts, worked, event_at, waiting_after, hand_after, previous_after, with_tick}
-use Rattle.rules.specs.Step.{letter_of}
+use Rattle.rules.specs.declared.letter.Letter.{Letter}
+use Rattle.rules.specs.Tick.{one_if, begins, interrupts, worked, event_at, waiting_after, hand_after, previous_after, with_tick}
 
 -- the hand once the first waiting job was taken into an empty one
-abbrev pub taken : Hand → Option Job → Hand
-taken (Holding job holds) first = Holding job holds
-taken Empty None = Empty
-taken Empty (Some j) = Holding j 0
+abbrev pub taken : Option HeldJob → Option Job → Option HeldJob
+taken (Some held) first = Some held
+taken None None = None
+taken None (Some j) = Some (record { job = j; holds = 0 })
 
 -- the waiting list once its first job was taken into an empty hand
-abbrev pub left_waiting : Hand → List Job → List Job
-left_waiting (Holding job holds) js = js
-left_waiting Empty js = rest_of js
+abbrev pub left_waiting : Option HeldJob → List Job → List Job
+left_waiting (Some held) js = js
+left_waiting None js = rest_of js
 
 -- the job that runs is in the hand
 abbrev pub picked : State → State
@@ -42,12 +41,12 @@ picked s = record {
 }
 
 -- the counts once the job in the hand begins
-abbrev pub begun_counts : List Row → Hand → Option JobId → Counts → Counts
-begun_counts rows Empty previous c = c
-begun_counts rows (Holding j holds) previous c = record {
+abbrev pub begun_counts : List Row → Option HeldJob → Option JobId → Counts → Counts
+begun_counts rows None previous c = c
+begun_counts rows (Some held) previous c = record {
   idle = c.idle;
-  begun = c.begun + one_if (begins (row_at j.task rows) j);
-  interruptions = c.interruptions + one_if (interrupts previous j);
+  begun = c.begun + one_if (begins (row_at held.job.task rows) held.job);
+  interruptions = c.interruptions + one_if (interrupts previous held.job);
 }
 
 -- the job in the hand begins
@@ -65,7 +64,7 @@ started rows s = record {
 -- the most holds in a row that the row of the job in the hand allows
 abbrev pub most_holds : List Row → Stage → ℕ
 most_holds rows Free = 0
-most_holds rows (Keeping j holds) = (row_at j.task rows).hold
+most_holds rows (Keeping held) = (row_at held.job.task rows).hold
 most_holds rows (Stopped hand miss) = 0
 
 -- a tick given to task i, and so many jobs done
@@ -76,14 +75,6 @@ credited done i tasks =
       done = (task_at i tasks).done + done;
       given = (task_at i tasks).given + 1;
     })
-
--- the letter that a character asks; r where it is none
-abbrev pub asked_by : Option Letter → Letter
-asked_by None = run
-asked_by (Some l) = l
-
-abbrev pub asked : ℕ → Letter
-asked c = asked_by (letter_of c)
 
 -- a job works, and that event follows
 abbrev pub moved_with : Event → Job → ℕ → State → State
@@ -114,7 +105,7 @@ abbrev pub idled : State → State
 idled s = record {
   clock = s.clock + 1;
   waiting = s.waiting;
-  hand = Empty;
+  hand = None;
   previous = None;
   tasks = s.tasks;
   counts = record { idle = s.counts.idle + 1; begun = s.counts.begun; interruptions = s.counts.interruptions };
@@ -122,9 +113,9 @@ idled s = record {
 }
 
 -- the job in the hand works, or the tick is idle
-abbrev pub moved_by : List Row → Letter → Hand → State → State
-moved_by rows l Empty s = idled s
-moved_by rows l (Holding j holds) s = moved_with (event_at rows l j holds) j holds s
+abbrev pub moved_by : List Row → Letter → Option HeldJob → State → State
+moved_by rows l None s = idled s
+moved_by rows l (Some held) s = moved_with (event_at rows l held.job held.holds) held.job held.holds s
 
 abbrev pub moved : List Row → Letter → State → State
 moved rows l s = moved_by rows l s.hand s
@@ -142,6 +133,6 @@ abbrev pub idle_line : ℕ → Tick
 idle_line clock = record { clock = clock; task = 0; job = 0; left = 0; event = Idle }
 
 -- the line of the tick
-abbrev pub line_by : List Row → Letter → Hand → ℕ → Tick
-line_by rows l Empty clock = idle_line clock
-line_by rows l (Holding j holds) clock = tick_line (event_at rows l j holds) j clock
+abbrev pub line_by : List Row → Letter → Option HeldJob → ℕ → Tick
+line_by rows l None clock = idle_line clock
+line_by rows l (Some held) clock = tick_line (event_at rows l held.job held.holds) held.job clock

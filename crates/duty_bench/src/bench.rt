@@ -1,23 +1,25 @@
 // The bench. It comes from opening alone, and cannot be copied.
-ghost use Rattle.std.specs.Prelude.{◌≡◌, ◌≤◌, true, length};
-ghost use Rattle.rules.specs.Step.{last_clock};
-ghost use Rattle.duty_bench.specs.Awaited.{Awaited, NoneBefore};
-ghost use Rattle.duty_bench.specs.Bounds.{known_stage, Counted};
-ghost use Rattle.duty_bench.specs.Model.{judged_rows};
-
 use crate::parts::Parts;
+use heap::releases::Releases;
 use ready::queue::ReadyQueue;
+use std::marker::Model;
+use verdict::judged::Judged;
 
-// What keeps its numbers within their types is part of the bench's own type.
 pub struct Bench<Q: ReadyQueue> {
+    pub(crate) judged: Judged,
+    // the next release of each task
+    pub(crate) coming: Releases,
     pub(crate) parts: Parts<Q>,
-    ghost known: { known_stage parts.stage ≡ true },
-    ghost early: { parts.clock ≤ last_clock },
-    ghost whole: { length parts.tasks ≡ 32 },
-    ghost counted: { Counted parts.clock parts.clock parts.tasks },
-    ghost awaited: { Awaited (judged_rows parts.judged) parts.tasks parts.coming },
-    ghost ahead: { NoneBefore (judged_rows parts.judged) parts.tasks parts.clock },
-    ghost idle: { parts.counts.idle ≤ parts.clock },
-    ghost begun: { parts.counts.begun ≤ parts.clock },
-    ghost interruptions: { parts.counts.interruptions ≤ parts.clock },
+}
+
+// Contracts see the rows of its table and a state of the rules. That a run leaves it is part of its own type.
+impl<Q: ReadyQueue> Model for Bench<Q> {
+    ghost use Rattle.duty_bench.specs.Model.{BenchState, bench_of};
+    ghost use Rattle.duty_bench.specs.Reached.{Kept};
+
+    ghost Value = { BenchState };
+
+    ghost view = { λ b. bench_of Q.waiting b.judged b.parts };
+
+    ghost invariant = { λ b. Kept Q.waiting b.judged b.coming b.parts };
 }

@@ -1,15 +1,14 @@
 // Whether a job has missed its deadline.
-ghost use Rattle.std.specs.Prelude.{◌≡◌, true};
+ghost use Rattle.std.specs.Prelude.{◌≡◌, None};
 ghost use Rattle.rules.specs.Tick.{urgent_of, most_urgent, missed, checked, miss_line};
-ghost use Rattle.duty_bench.specs.Bounds.{running_stage, Settled};
-ghost use Rattle.duty_bench.specs.Model.{model, hand_of, miss_of};
+ghost use Rattle.duty_bench.specs.Model.{state_of, hand_of, miss_of};
 
 use crate::parts::Parts;
 use crate::stage::Stage;
 use duty_log::line::Miss;
 use ready::job::Job;
 use ready::queue::ReadyQueue;
-use rules::hand::Hand;
+use rules::hand::Held;
 
 // The more urgent of a job and another, if there is another.
 fn more_urgent(job: Job, other: Option<Job>) -> Job
@@ -23,12 +22,12 @@ fn more_urgent(job: Job, other: Option<Job>) -> Job
 
 impl Stage {
     // The hand of a bench in this state.
-    pub(crate) fn hand(self) -> Hand
+    pub(crate) fn hand(self) -> Option<Held>
         ensures { result ≡ hand_of self }
     {
         match self {
-            Stage::Free => Hand::Empty,
-            Stage::Holding { job, holds } => Hand::Holding { job, holds },
+            Stage::Free => None,
+            Stage::Holding(held) => Some(held),
             Stage::Stopped { hand, .. } => hand,
         }
     }
@@ -51,19 +50,16 @@ impl<Q: ReadyQueue> Parts<Q> {
     {
         let first = self.queue.first();
         match self.stage.hand() {
-            Hand::Empty => first,
-            Hand::Holding { job, .. } => Some(more_urgent(job, first)),
+            None => first,
+            Some(held) => Some(more_urgent(held.job, first)),
         }
     }
 
     // Stops the bench if the most urgent job is late, and says which job that is.
     pub(crate) fn check(&mut self) -> Option<Miss>
-        requires settled { Settled self.old }
-        requires running { running_stage self.old.stage ≡ true }
-        ensures is { model Q.waiting self.new ≡ checked (model Q.waiting self.old) }
-        ensures line { result ≡ miss_line (missed (model Q.waiting self.old)) }
-        ensures settled { Settled self.new }
-        ensures judged { self.new.judged ≡ self.old.judged }
+        requires { miss_of self.old.stage ≡ None }
+        ensures is { state_of Q.waiting self.new ≡ checked (state_of Q.waiting self.old) }
+        ensures line { result ≡ miss_line (missed (state_of Q.waiting self.old)) }
     {
         let Some(job) = self.most_urgent() else {
             return None;

@@ -1,8 +1,9 @@
 // Opening and closing a bench.
 ghost use Rattle.std.specs.Prelude.{◌≡◌, ◌-◌, ◌≤◌, ◌++◌, length, replicate};
 ghost use Rattle.rules.specs.State.{opened, no_counts};
+ghost use Rattle.rules.specs.Promises.{Promised};
 ghost use Rattle.rules.specs.Run.{closing_of};
-ghost use Rattle.duty_bench.specs.Model.{model, judged_rows};
+ghost use Rattle.duty_bench.specs.Model.{judged_rows};
 
 use crate::bench::Bench;
 use crate::parts::Parts;
@@ -13,34 +14,26 @@ use rules::closing::Closing;
 use rules::counts::{Counts, TaskCounts};
 use verdict::judged::Judged;
 
-const NO_COUNTS: TaskCounts = TaskCounts {
-    released: 0,
-    done: 0,
-    given: 0,
-};
-
 // Opens a bench at clock 0 on a judged table, over a queue that is cleared first. It never refuses.
 pub fn open<Q: ReadyQueue>(judged: Judged, mut queue: Q) -> Bench<Q>
-    ensures state { model Q.waiting result.parts ≡ opened (judged_rows judged) }
-    ensures judged { result.parts.judged ≡ judged }
+    ensures rows { result.rows ≡ judged_rows judged }
+    ensures state { result.state ≡ opened (judged_rows judged) }
 {
     queue.clear();
     let coming = first_releases(&judged);
     let parts = Parts {
-        judged,
         queue,
-        coming,
         clock: 0,
         stage: Stage::Free,
         previous: None,
-        tasks: [NO_COUNTS; 32],
-        counts: Counts {
-            idle: 0,
-            begun: 0,
-            interruptions: 0,
-        },
+        tasks: [TaskCounts::default(); 32],
+        counts: Counts::default(),
     };
-    Bench { parts }
+    Bench {
+        judged,
+        coming,
+        parts,
+    }
 }
 
 // The counts of each task of a table, and counts of 0 up to 32.
@@ -48,7 +41,7 @@ fn padded(tasks: &[TaskCounts]) -> [TaskCounts; 32]
     requires { length tasks.now ≤ 32 }
     ensures { result ≡ tasks.now ++ replicate (32 - length tasks.now) no_counts }
 {
-    let mut all = [NO_COUNTS; 32];
+    let mut all = [TaskCounts::default(); 32];
     all[0..tasks.len()].copy_from_slice(tasks);
     all
 }
@@ -56,13 +49,16 @@ fn padded(tasks: &[TaskCounts]) -> [TaskCounts; 32]
 impl<Q: ReadyQueue> Bench<Q> {
     // Closes the bench: it is used up, and its counts, each task's counts, its clock and the miss, if any, come out.
     pub fn close(self) -> Closing
-        ensures { result ≡ closing_of (model Q.waiting self.parts) }
+        ensures closing { result ≡ closing_of self.state }
+        ensures promised { Promised self.rows result }
     {
-        let Bench { parts } = self;
-        let Parts {
+        let Bench {
             judged,
-            queue: _,
             coming: _,
+            parts,
+        } = self;
+        let Parts {
+            queue: _,
             clock,
             stage,
             previous: _,

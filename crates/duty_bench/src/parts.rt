@@ -1,17 +1,12 @@
-// The parts of a bench.
+// The parts of a bench that a step changes one after the other.
 use crate::stage::Stage;
-use heap::releases::Releases;
+use ready::job::JobId;
 use ready::queue::ReadyQueue;
 use rules::counts::{Counts, TaskCounts};
-use rules::hand::JobId;
-use verdict::judged::Judged;
 
-// Within a step the parts change one after the other, so what relates them is told by the contracts of the functions here.
+// What relates them within a step is told by the contracts of the functions here, and by no invariant: it changes from point to point of a step.
 pub struct Parts<Q: ReadyQueue> {
-    pub(crate) judged: Judged,
     pub(crate) queue: Q,
-    // the next release of each task
-    pub(crate) coming: Releases,
     pub(crate) clock: u32,
     pub(crate) stage: Stage,
     pub(crate) previous: Option<JobId>,

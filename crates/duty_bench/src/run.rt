@@ -2,7 +2,7 @@
 ghost use Rattle.std.specs.Prelude.{◌≡◌};
 ghost use Rattle.rules.specs.Promises.{Promised};
 ghost use Rattle.rules.specs.Run.{called, after_run, closing_of};
-ghost use Rattle.duty_bench.specs.Model.{model, judged_rows};
+ghost use Rattle.duty_bench.specs.Model.{judged_rows};
 
 use crate::bench::Bench;
 use crate::open::open;
@@ -12,10 +12,10 @@ use rules::closing::Closing;
 use verdict::judged::Judged;
 
 impl<Q: ReadyQueue> Bench<Q> {
-    // Makes a call, done or refused.
+    // Makes a call, done or refused. A match, and no closure, makes it: calls are data, and the promise speaks of every list of them.
     fn make(&mut self, call: Call)
-        ensures state { model Q.waiting self.new.parts ≡ called (judged_rows self.old.parts.judged) call (model Q.waiting self.old.parts) }
-        ensures judged { self.new.parts.judged ≡ self.old.parts.judged }
+        ensures state { self.new.state ≡ called self.old.rows call self.old.state }
+        ensures rows { self.new.rows ≡ self.old.rows }
     {
         match call {
             Call::Step(letter) => {

@@ -3,37 +3,25 @@ ghost use Rattle.std.specs.Prelude.{◌≡◌, ℕ, List, map, take};
 ghost use Rattle.rules.specs.declared.call.Call.TheVariants.{Step};
 ghost use Rattle.rules.specs.Promises.{Promised};
 ghost use Rattle.rules.specs.Run.{run_from, after_run, closing_of};
-ghost use Rattle.duty_bench.specs.Model.{model, judged_rows};
+ghost use Rattle.duty_bench.specs.Model.{judged_rows};
 
 use crate::bench::Bench;
-use crate::lines::write_answer;
 use crate::open::open;
-use duty_log::line::{LONGEST, Outcome};
+use duty_log::logged::Logged;
 use ready::queue::ReadyQueue;
 use rules::closing::Closing;
-use rules::refusal::StepRefusal;
 use std::io;
 use std::io::{Read, Write};
 use verdict::judged::Judged;
 
-// Hands the lines of a step's answer to the writer.
-fn print<W: Write>(answer: Result<Outcome, StepRefusal>, output: &mut W) -> io::Result<()> {
-    let mut buffer = [0u8; LONGEST];
-    match write_answer(answer, &mut buffer) {
-        Ok(count) => output.write_all(&buffer[0..count]),
-        Err(_) => unreachable(),
-    }
-}
-
 impl<Q: ReadyQueue> Bench<Q> {
     // Steps with each byte, as the character of that number, and hands each step's lines to the writer; ends early where that fails.
     fn feed<W: Write>(&mut self, letters: &[u8], output: &mut W) -> io::Result<()>
-        ensures state { (n : ℕ) × (model Q.waiting self.new.parts ≡ run_from (judged_rows self.old.parts.judged) (map Step (take n letters.now)) (model Q.waiting self.old.parts)) }
-        ensures judged { self.new.parts.judged ≡ self.old.parts.judged }
+        ensures state { (n : ℕ) × (self.new.state ≡ run_from self.old.rows (map Step (take n letters.now)) self.old.state) }
+        ensures rows { self.new.rows ≡ self.old.rows }
     {
         for letter in letters {
-            let answer = self.step(char::from(*letter));
-            print(answer, output)?;
+            self.step(char::from(*letter)).print(output)?;
         }
         Ok(())
     }
@@ -46,10 +34,11 @@ impl<Q: ReadyQueue> Bench<Q> {
     // Reads letters to the end of the input and steps with each; ends early where reading or writing fails.
     // What a chunk of letters gave is written out before the next chunk is waited for.
     fn follow<R: Read, W: Write>(&mut self, input: &mut R, output: &mut W) -> io::Result<()>
-        ensures state { (letters : List ℕ) × (model Q.waiting self.new.parts ≡ run_from (judged_rows self.old.parts.judged) (map Step letters) (model Q.waiting self.old.parts)) }
-        ensures judged { self.new.parts.judged ≡ self.old.parts.judged }
+        ensures state { (letters : List ℕ) × (self.new.state ≡ run_from self.old.rows (map Step letters) self.old.state) }
+        ensures rows { self.new.rows ≡ self.old.rows }
     {
         let mut chunk = [0u8; CHUNK];
+        // counted, since nothing else bounds how often an input has more
         for _ in 0..u64::MAX {
             let count = input.read(&mut chunk)?;
             if count == 0 {

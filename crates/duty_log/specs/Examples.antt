@@ -1,11 +1,15 @@
 -- Lines written out, for a reader to compare with the definitions.
 use Rattle.std.specs.Prelude.{◌≡◌, ℕ, List, [], ◌∷◌, length, Some, None, Ok, Err, codes}
+use Rattle.sheet.specs.declared.fault.Fault.TheVariants.{Short, Broken}
+use Rattle.sheet.specs.declared.fault.Rule.TheVariants.{Deadline}
+use Rattle.verdict.specs.declared.answer.Verdict.TheVariants.{Admitted, FailsAt}
 use Rattle.duty_log.specs.declared.line.Event.{Event}
 use Rattle.duty_log.specs.declared.line.Event.TheVariants.{PutBack, Held, Done, Idle}
 use Rattle.duty_log.specs.declared.line.Tick.{Tick}
 use Rattle.duty_log.specs.declared.line.Line.TheVariants as line
+use Rattle.duty_log.specs.declared.refusal.StepRefusal.TheVariants.{Stopped, LastClock, NoSuchLetter}
 use Rattle.duty_log.specs.declared.refusal.LogRefusal.TheVariants.{ShortBuffer}
-use Rattle.duty_log.specs.Lines.{line_of, bytes_of, outcome_bytes, longest}
+use Rattle.duty_log.specs.Lines.{line_of, bytes_of, outcome_bytes, answer_bytes, longest}
 use Rattle.duty_log.specs.Refusals.{number_of}
 use Rattle.duty_log.specs.Written.{answer_of, buffer_of}
 
@@ -21,20 +25,29 @@ most = 4294967295
 pub record LinesAsWritten : Type 0 where
   pub head : bytes_of line.Head ≡ codes "tick task job left event\n"
   pub head_words : bytes_of line.Head ≡ line_of (codes "tick" ∷ codes "task" ∷ codes "job" ∷ codes "left" ∷ codes "event" ∷ [])
-  pub verdict : bytes_of (line.Verdict 0) ≡ codes "verdict 0\n"
-  pub sheet : bytes_of (line.Sheet 7 3 2) ≡ codes "sheet 7 3 2\n"
+  pub verdict : bytes_of (line.Verdict Admitted) ≡ codes "verdict 0\n"
+  pub sheet : bytes_of (line.Sheet (Broken Deadline 2)) ≡ codes "sheet 7 3 2\n"
+  pub short_sheet : bytes_of (line.Sheet Short) ≡ codes "sheet 1 1 0\n"
   pub done : bytes_of (line.Tick (tick 2 2 1 2 Done)) ≡ codes "2 2 1 2 d\n"
   pub idle : bytes_of (line.Tick (tick 1 0 0 0 Idle)) ≡ codes "1 0 0 0 i\n"
   pub put_back : bytes_of (line.Tick (tick 10 2 1 100 PutBack)) ≡ codes "10 2 1 100 r\n"
   pub held : bytes_of (line.Tick (tick most 32 most 1000000000 Held)) ≡ codes "4294967295 32 4294967295 1000000000 h\n"
   pub miss : bytes_of (line.Miss (record { task = 2; job = 1 })) ≡ codes "miss 2 1\n"
-  pub refused : bytes_of (line.Refused 14) ≡ codes "refused 14\n"
+  pub refused : bytes_of (line.Refused NoSuchLetter) ≡ codes "refused 14\n"
   pub end : bytes_of (line.End (record { clock = 6; idle = 1; begun = 3; interruptions = 1 })) ≡ codes "end 6 1 3 1\n"
 
 -- a step's outcome with a miss and without one
 pub record OutcomesAsWritten : Type 0 where
   pub missed : outcome_bytes (record { tick = tick 3 1 1 0 Done; miss = Some (record { task = 2; job = 1 }) }) ≡ codes "3 1 1 0 d\nmiss 2 1\n"
   pub punctual : outcome_bytes (record { tick = tick 3 1 1 0 Done; miss = None }) ≡ codes "3 1 1 0 d\n"
+
+-- answers of steps, done and refused
+pub record AnswersAsWritten : Type 0 where
+  pub punctual : answer_bytes (Ok (record { tick = tick 3 2 1 1 PutBack; miss = None })) ≡ codes "3 2 1 1 r\n"
+  pub missed : answer_bytes (Ok (record { tick = tick 3 2 1 1 PutBack; miss = Some (record { task = 2; job = 1 }) })) ≡ codes "3 2 1 1 r\nmiss 2 1\n"
+  pub stopped : answer_bytes (Err Stopped) ≡ codes "refused 12\n"
+  pub last_clock : answer_bytes (Err LastClock) ≡ codes "refused 13\n"
+  pub no_letter : answer_bytes (Err NoSuchLetter) ≡ codes "refused 14\n"
 
 -- the bytes of a missed tick where every number is the greatest
 abbrev pub greatest_outcome : List ℕ
@@ -56,4 +69,4 @@ pub record LongestReached : Type 0 where
 
 -- a verdict of two digits
 pub record VerdictAsWritten : Type 0 where
-  pub fails : bytes_of (line.Verdict 12) ≡ codes "verdict 12\n"
+  pub fails : bytes_of (line.Verdict (FailsAt 12)) ≡ codes "verdict 12\n"

@@ -1,5 +1,4 @@
 pub mod Examples
 pub mod Lines
 pub mod Refusals
-pub mod Texts
 pub mod Written

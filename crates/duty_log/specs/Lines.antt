@@ -1,5 +1,7 @@
 -- The bytes of each line of the log.
-use Rattle.std.specs.Prelude.{ℕ, List, [], ◌∷◌, ◌++◌, Some, None, codes, decimal, Option}
+use Rattle.std.specs.Prelude.{ℕ, List, [], ◌∷◌, ◌++◌, Some, None, Ok, Err, codes, decimal, unwrap_or, Option, Result}
+use Rattle.sheet.specs.Faults.{number_of as fault_number, layer_of, layer_number, row_of_fault}
+use Rattle.verdict.specs.Test.{number_of as verdict_number}
 use Rattle.duty_log.specs.declared.line.Event.{Event}
 use Rattle.duty_log.specs.declared.line.Event.TheVariants.{PutBack, Held, Done, Idle}
 use Rattle.duty_log.specs.declared.line.Tick.{Tick}
@@ -8,6 +10,8 @@ use Rattle.duty_log.specs.declared.line.End.{End}
 use Rattle.duty_log.specs.declared.line.Outcome.{Outcome}
 use Rattle.duty_log.specs.declared.line.Line.{Line}
 use Rattle.duty_log.specs.declared.line.Line.TheVariants as line
+use Rattle.duty_log.specs.declared.refusal.StepRefusal.{StepRefusal}
+use Rattle.duty_log.specs.Refusals.{step_number}
 
 -- the letter of an event: r put back, h held, d done, i idle
 abbrev pub letter_of : Event → ℕ
@@ -34,14 +38,14 @@ miss_bytes m = line_of (codes "miss" ∷ decimal m.task ∷ decimal m.job ∷ []
 abbrev pub end_bytes : End → List ℕ
 end_bytes e = line_of (codes "end" ∷ decimal e.clock ∷ decimal e.idle ∷ decimal e.begun ∷ decimal e.interruptions ∷ [])
 
--- the bytes of a line
+-- the bytes of a line: of a verdict its number; of a refused sheet the fault's number, its layer's, and the row or 0; of a refused step its number
 abbrev pub bytes_of : Line → List ℕ
 bytes_of line.Head = codes "tick task job left event\n"
-bytes_of (line.Verdict n) = line_of (codes "verdict" ∷ decimal n ∷ [])
-bytes_of (line.Sheet number layer row) = line_of (codes "sheet" ∷ decimal number ∷ decimal layer ∷ decimal row ∷ [])
+bytes_of (line.Verdict verdict) = line_of (codes "verdict" ∷ decimal (verdict_number verdict) ∷ [])
+bytes_of (line.Sheet fault) = line_of (codes "sheet" ∷ decimal (fault_number fault) ∷ decimal (layer_number (layer_of fault)) ∷ decimal (unwrap_or (row_of_fault fault) 0) ∷ [])
 bytes_of (line.Tick t) = tick_bytes t
 bytes_of (line.Miss m) = miss_bytes m
-bytes_of (line.Refused n) = line_of (codes "refused" ∷ decimal n ∷ [])
+bytes_of (line.Refused refusal) = line_of (codes "refused" ∷ decimal (step_number refusal) ∷ [])
 bytes_of (line.End e) = end_bytes e
 
 -- the line of a miss, or nothing
@@ -52,6 +56,11 @@ missed_bytes (Some m) = miss_bytes m
 -- what a step adds to the log: its tick line, then its miss line if it has one
 abbrev pub outcome_bytes : Outcome → List ℕ
 outcome_bytes o = tick_bytes o.tick ++ missed_bytes o.miss
+
+-- what a step's answer adds to the log: its tick line and its miss line if it has one; or a refused step's own line
+abbrev pub answer_bytes : Result Outcome StepRefusal → List ℕ
+answer_bytes (Ok outcome) = outcome_bytes outcome
+answer_bytes (Err refusal) = bytes_of (line.Refused refusal)
 
 -- the most bytes that a line, or a step's one or two lines, can have
 abbrev pub longest : ℕ

@@ -1,14 +1,16 @@
 // What is true of the lines of a log.
 ghost use Rattle.std.specs.Prelude.{◌≡◌, ◌≤◌, length};
-ghost use Rattle.duty_log.specs.Examples.{BuffersAsLeft, LinesAsWritten, LongestReached, OutcomesAsWritten, VerdictAsWritten, greatest_outcome};
+ghost use Rattle.duty_log.specs.Examples.{AnswersAsWritten, BuffersAsLeft, LinesAsWritten, LongestReached, OutcomesAsWritten, VerdictAsWritten, greatest_outcome};
 ghost use Rattle.duty_log.specs.Lines.{bytes_of, outcome_bytes};
 
 use crate::line::{LONGEST, Line, Outcome};
+use crate::logged::Logged;
 
-// Lines and outcomes as they stand in a log.
+// Lines, outcomes and answers as they stand in a log.
 pub fn worked_lines()
     ensures lines { LinesAsWritten }
     ensures outcomes { OutcomesAsWritten }
+    ensures answers { AnswersAsWritten }
     ensures buffers { BuffersAsLeft }
     ensures longest { LongestReached }
     ensures verdict { VerdictAsWritten }
@@ -21,7 +23,7 @@ pub fn longest_suffices(line: &Line, outcome: &Outcome) -> usize
     ensures reached { length greatest_outcome ≡ result }
 {
     // each text stands in an array of that length
-    let _line = line.text();
-    let _outcome = outcome.text();
+    let _line = line.text().as_bytes();
+    let _outcome = outcome.text().as_bytes();
     LONGEST
 }

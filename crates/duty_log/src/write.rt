@@ -1,36 +1,21 @@
-// Writing lines into a lent buffer.
+// The text of each line.
 ghost use Rattle.std.specs.Prelude.{◌≡◌, ◌+◌, ◌≤◌, ◌++◌, length};
-ghost use Rattle.duty_log.specs.Lines.{letter_of, tick_bytes, miss_bytes, end_bytes, bytes_of, outcome_bytes, longest};
-ghost use Rattle.duty_log.specs.Texts.{text_bytes};
-ghost use Rattle.duty_log.specs.Written.{Written};
+ghost use Rattle.duty_log.specs.Lines.{tick_bytes, miss_bytes, end_bytes, bytes_of, outcome_bytes, answer_bytes, longest};
 
-use crate::line::{End, Event, Line, Miss, Outcome, Tick};
-use crate::refusal::LogRefusal;
+use crate::line::{End, Line, Miss, Outcome, Tick};
+use crate::logged::Logged;
+use crate::refusal::StepRefusal;
 use crate::text::Text;
 
 // The first line of every log: the names of a tick line's fields.
 const HEAD: &[u8] = b"tick task job left event\n";
 
-impl Event {
-    // The letter of the event in a tick line.
-    pub fn letter(self) -> u8
-        ensures { result ≡ letter_of self }
-    {
-        match self {
-            Event::PutBack => b'r',
-            Event::Held => b'h',
-            Event::Done => b'd',
-            Event::Idle => b'i',
-        }
-    }
-}
-
 impl Text {
     // Adds a tick line.
     fn tick(&mut self, tick: Tick)
-        requires { self.old.len + 46 ≤ longest }
-        ensures bytes { text_bytes self.new ≡ text_bytes self.old ++ tick_bytes tick }
-        ensures len { self.new.len ≤ self.old.len + 46 }
+        requires { length self.old + 46 ≤ longest }
+        ensures bytes { self.new ≡ self.old ++ tick_bytes tick }
+        ensures len { length self.new ≤ length self.old + 46 }
     {
         self.field(tick.clock, b' ');
         self.field(tick.task, b' ');
@@ -41,9 +26,8 @@ impl Text {
 
     // Adds a miss line.
     fn miss(&mut self, miss: Miss)
-        requires { self.old.len + 27 ≤ longest }
-        ensures bytes { text_bytes self.new ≡ text_bytes self.old ++ miss_bytes miss }
-        ensures len { self.new.len ≤ self.old.len + 27 }
+        requires { length self.old + 27 ≤ longest }
+        ensures { self.new ≡ self.old ++ miss_bytes miss }
     {
         self.append(b"miss ");
         self.field(miss.task, b' ');
@@ -52,8 +36,8 @@ impl Text {
 
     // Adds the last line.
     fn end(&mut self, end: End)
-        requires { self.old.len + 48 ≤ longest }
-        ensures bytes { text_bytes self.new ≡ text_bytes self.old ++ end_bytes end }
+        requires { length self.old + 48 ≤ longest }
+        ensures { self.new ≡ self.old ++ end_bytes end }
     {
         self.append(b"end ");
         self.field(end.clock, b' ');
@@ -63,50 +47,39 @@ impl Text {
     }
 }
 
-impl Line {
-    // The bytes of the line.
-    pub(crate) fn text(&self) -> Text
-        ensures { text_bytes result ≡ bytes_of self.now }
-    {
+impl Logged for Line {
+    ghost bytes = { bytes_of };
+
+    fn text(&self) -> Text {
         let mut text = Text::new();
         match *self {
             Line::Head => text.append(HEAD),
-            Line::Verdict(number) => {
+            Line::Verdict(verdict) => {
                 text.append(b"verdict ");
-                text.field(number, b'\n');
+                text.field(verdict.number(), b'\n');
             }
-            Line::Sheet { number, layer, row } => {
+            Line::Sheet(fault) => {
                 text.append(b"sheet ");
-                text.field(number, b' ');
-                text.field(layer, b' ');
-                text.field(row, b'\n');
+                text.field(fault.number(), b' ');
+                text.field(fault.layer().number(), b' ');
+                text.field(fault.row().unwrap_or(0), b'\n');
             }
             Line::Tick(tick) => text.tick(tick),
             Line::Miss(miss) => text.miss(miss),
-            Line::Refused(number) => {
+            Line::Refused(refusal) => {
                 text.append(b"refused ");
-                text.field(number, b'\n');
+                text.field(refusal.number(), b'\n');
             }
             Line::End(end) => text.end(end),
         }
         text
     }
-
-    // Writes the line to the front of `out`, and says how many bytes it has.
-    // A buffer that is too short is left as it was; one of `LONGEST` bytes never is.
-    pub fn write(&self, out: &mut [u8]) -> Result<usize, LogRefusal>
-        ensures written { Written (bytes_of self.now) result out.old out.new }
-        ensures fits { length (bytes_of self.now) ≤ longest }
-    {
-        self.text().copy_to(out)
-    }
 }
 
-impl Outcome {
-    // The bytes of the step's lines.
-    pub(crate) fn text(&self) -> Text
-        ensures { text_bytes result ≡ outcome_bytes self.now }
-    {
+impl Logged for Outcome {
+    ghost bytes = { outcome_bytes };
+
+    fn text(&self) -> Text {
         let mut text = Text::new();
         text.tick(self.tick);
         if let Some(miss) = self.miss {
@@ -114,13 +87,15 @@ impl Outcome {
         }
         text
     }
+}
 
-    // Writes the step's lines to the front of `out`, and says how many bytes they have.
-    // A buffer that is too short for all of them is left as it was.
-    pub fn write(&self, out: &mut [u8]) -> Result<usize, LogRefusal>
-        ensures written { Written (outcome_bytes self.now) result out.old out.new }
-        ensures fits { length (outcome_bytes self.now) ≤ longest }
-    {
-        self.text().copy_to(out)
+impl Logged for Result<Outcome, StepRefusal> {
+    ghost bytes = { answer_bytes };
+
+    fn text(&self) -> Text {
+        match self {
+            Ok(outcome) => outcome.text(),
+            Err(refusal) => Line::Refused(*refusal).text(),
+        }
     }
 }

@@ -1,6 +1,6 @@
 -- The list in order: it does not depend on the order that its entries came in.
 use Rattle.std.proofs.Common.{◌≡◌, ℕ, zero, suc, ◌<◌, Bool, true, false, cond, List, [], ◌∷◌, length, get_or, set, sym, refl, ap, ◌∙◌, subst, ⊎_elim, arith}
-use Rattle.std.specs.List.{ContainsAt, AllByRecursion, swap}
+use Rattle.std.specs.List.{ContainsAt, AllByRecursion, swap, slice_get}
 use Rattle.std.specs.List.Sorted.{IsPermutation}
 use Rattle.std.specs.Cmp.{IsStrictWeakOrder}
 use Rattle.std.proofs.ByRecursion.{All-get_or, All-set, all_has_itself, All-from_get_or, all_shuffled}
@@ -22,6 +22,11 @@ module _ {X : Type 0} (ahead : X → X → Bool) (o : IsStrictWeakOrder ahead) w
   heads (x ∷ xs) h =
       let P : X → Type 0 = λ y. ahead y x ≡ false in
       ap first_of (placed_foremost ahead x (ordered ahead xs) (all_ordered ahead P xs (All-from_get_or P xs x (λ i b. top ahead o (x ∷ xs) x h (suc i) (suc i) (omega arith) (omega arith)))))
+
+  -- so what is read in the first slot is the first in order
+  pub reads_first : (xs : List X) → Heaped ahead xs → slice_get xs 0 ≡ first_of (ordered ahead xs)
+  reads_first [] h = refl
+  reads_first (x ∷ xs) h = sym (heads (x ∷ xs) h)
 
   itself : {G : Type 0} (x : X) → ahead x x ≡ true → G
   itself x e = absurd (both_ways (ahead x x) (never ahead o x) e)

@@ -1,5 +1,5 @@
 -- An entry rises or sinks in a heap by exchanges.
-use Rattle.std.proofs.Common.{◌≡◌, ℕ, zero, suc, ◌+◌, ◌-◌, ◌*◌, ◌/◌, ◌<◌, ◌≤◌, Bool, true, false, List, length, get_or, sym, refl, ap, ◌∙◌, ⊎_elim, arith}
+use Rattle.std.proofs.Common.{◌≡◌, ℕ, zero, suc, ◌-◌, ◌/◌, ◌<◌, ◌≤◌, Bool, true, false, List, length, get_or, sym, refl, ap, ◌∙◌, ⊎_elim, arith}
 use Rattle.std.specs.Cmp.{IsStrictWeakOrder}
 use Rattle.std.proofs.lemmas.Bool.{cases_Bool}
 use Rattle.std.proofs.Permutation.{which}
@@ -18,22 +18,8 @@ module _ {X : Type 0} (ahead : X → X → Bool) where
   at xs d e = ap (λ m. get_or xs m d) e
 
   -- a heap, by each entry that has a parent
-  from_parents : (xs : List X) → ((k : ℕ) (d : X) → 0 < k → k < length xs → ahead (get_or xs k d) (get_or xs ((k - 1) / 2) d) ≡ false) → Heaped ahead xs
-  from_parents xs h k d b = by refl (at xs d (omega arith)) (h (k + 1) d (omega arith) b)
-
   pub to_parents : (xs : List X) → Heaped ahead xs → (k : ℕ) (d : X) → 0 < k → k < length xs → ahead (get_or xs k d) (get_or xs ((k - 1) / 2) d) ≡ false
   to_parents xs h k d a b = by (at xs d (omega arith)) refl (h (k - 1) d (omega arith))
-
-  -- where the entry that rises stops
-  pub stays : (xs : List X) (j : ℕ) → ((d : X) → ahead (get_or xs j d) (get_or xs ((j - 1) / 2) d) ≡ false) → Rising ahead xs j → Heaped ahead xs
-  stays xs j t h = from_parents xs (λ k d a b. ⊎_elim
-      (λ (e : k ≡ j). by (at xs d e) (at xs d (ap (λ m. (m - 1) / 2) e)) (t d))
-      (λ (u : k ≡ j → ⊥). h.0 k d a b u)
-      (which k j))
-
-  -- where the entry that sinks has no child
-  pub leaf : (xs : List X) (j : ℕ) → length xs / 2 ≤ j → Sinking ahead xs j → Heaped ahead xs
-  leaf xs j le h = from_parents xs (λ k d a b. h.0 k d a b (omega arith))
 
   module _ (o : IsStrictWeakOrder ahead) where
     -- no entry comes before itself
@@ -85,26 +71,3 @@ module _ {X : Type 0} (ahead : X → X → Bool) where
             (which k c),
         λ k d a b e p. by (s.2 k d (omega arith) (omega arith)) (at ys d up ∙ s.0 d) (by refl (at xs d (sym e)) (h.0 k d a (omega arith) (omega arith))),
       )
-
-    -- where no child of the entry that sinks comes before it
-    pub rests : (xs : List X) (j c : ℕ) → ((d : X) → ahead (get_or xs c d) (get_or xs j d) ≡ false) → Least ahead xs j c → Sinking ahead xs j → Heaped ahead xs
-    rests xs j c t least h = from_parents xs (λ k d a b. ⊎_elim
-        (λ (e : (k - 1) / 2 ≡ j). o.chain _ _ _ (least k d a b e) (by refl (at xs d e) (t d)))
-        (λ (u : (k - 1) / 2 ≡ j → ⊥). h.0 k d a b u)
-        (which ((k - 1) / 2) j))
-
-    -- which child of the entry at j comes first: its only one, or the first or the second of two
-    pub only : (xs : List X) (j : ℕ) → length xs ≤ j * 2 + 2 → Least ahead xs j (j * 2 + 1)
-    only xs j le k d a b e = by (at xs d (omega arith)) refl (never _)
-
-    pub first : (xs : List X) (j : ℕ) → ((d : X) → ahead (get_or xs (j * 2 + 1 + 1) d) (get_or xs (j * 2 + 1) d) ≡ false) → Least ahead xs j (j * 2 + 1)
-    first xs j t k d a b e = ⊎_elim
-        (λ (f : k ≡ j * 2 + 1). by (at xs d f) refl (never _))
-        (λ (u : k ≡ j * 2 + 1 → ⊥). by (at xs d (omega arith)) refl (t d))
-        (which k (j * 2 + 1))
-
-    pub second : (xs : List X) (j : ℕ) → ((d : X) → ahead (get_or xs (j * 2 + 1 + 1) d) (get_or xs (j * 2 + 1) d) ≡ true) → Least ahead xs j (j * 2 + 1 + 1)
-    second xs j t k d a b e = ⊎_elim
-        (λ (f : k ≡ j * 2 + 1). by (at xs d f) refl (o.one_way _ _ (t d)))
-        (λ (u : k ≡ j * 2 + 1 → ⊥). by (at xs d (omega arith)) refl (never _))
-        (which k (j * 2 + 1))

@@ -9,7 +9,3 @@ release_fields r = r.time ∷ r.task ∷ []
 -- a comes before b: its time is earlier, or at equal times its task is smaller
 abbrev pub earlier : Release → Release → Bool
 earlier a b = cond (a.time == b.time) (nat_lt a.task b.task) (nat_lt a.time b.time)
-
--- some release, in slots that are not in use
-abbrev pub blank : Release
-blank = record { time = 0; task = 0 }

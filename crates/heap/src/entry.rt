@@ -1,12 +1,12 @@
 // What a heap asks of its entries: a total order on some of their fields, and how many can wait.
 ghost use Rattle.std.specs.Prelude.{◌≡◌, ℕ, Bool, true, false, not, List, ◌≢◌};
 
+// It is no `Ord`: the urgency of a job leaves out a field, so it does not agree with `==`.
 pub trait HeapEntry: Copy {
     // how many entries of this kind can wait
     const MOST: usize;
 
-    // the same number for clauses, which cannot name a constant of a trait
-    ghost room: { ℕ };
+    ghost MOST: { ℕ };
 
     // the fields that the order looks at
     ghost fields: { Self → List ℕ };
@@ -17,10 +17,6 @@ pub trait HeapEntry: Copy {
     // Whether this entry comes before the other.
     fn before(&self, other: &Self) -> bool
         ensures { result ≡ ahead self.now other.now };
-
-    // How many entries of this kind can wait.
-    fn limit() -> usize
-        ensures { result ≡ room };
 
     // of two entries that differ in their order fields just one comes before the other
     ghost one: { (x y : Self) → (fields x ≢ fields y) → ahead x y ≡ not (ahead y x) };

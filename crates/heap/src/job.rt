@@ -10,7 +10,7 @@ impl HeapEntry for Job {
     // four jobs of each of 32 tasks
     const MOST: usize = 128;
 
-    ghost room = { 128 };
+    ghost MOST = { 128 };
 
     ghost fields = { job_fields };
 
@@ -24,9 +24,5 @@ impl HeapEntry for Job {
 
     fn before(&self, other: &Job) -> bool {
         self.is_before(other)
-    }
-
-    fn limit() -> usize {
-        Self::MOST
     }
 }

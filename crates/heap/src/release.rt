@@ -5,7 +5,7 @@ ghost use Rattle.std.proofs.Common.{rules};
 use crate::entry::HeapEntry;
 
 // The next release of a task.
-#[derive(Clone, Copy)]
+#[derive(Clone, Copy, Debug, PartialEq, Eq, PartialOrd, Ord, Default)]
 pub struct Release {
     // the clock at which the job is released
     pub time: u32,
@@ -17,7 +17,7 @@ impl HeapEntry for Release {
     // one for each of 32 tasks
     const MOST: usize = 32;
 
-    ghost room = { 32 };
+    ghost MOST = { 32 };
 
     ghost fields = { release_fields };
 
@@ -30,14 +30,6 @@ impl HeapEntry for Release {
     ghost chain = { Prim.search rules };
 
     fn before(&self, other: &Release) -> bool {
-        if self.time != other.time {
-            self.time < other.time
-        } else {
-            self.task < other.task
-        }
-    }
-
-    fn limit() -> usize {
-        Self::MOST
+        self < other
     }
 }

@@ -7,7 +7,7 @@ use crate::release::Release;
 
 pub mod operations;
 
-// A heap in the first `len` slots.
+// A heap in the first `len` slots: no heap memory is asked for, and std has no vector of a fixed capacity.
 #[derive(Drop)]
 pub struct Releases {
     slots: [Release; 32],

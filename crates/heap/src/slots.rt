@@ -9,7 +9,7 @@ ghost use Rattle.heap.specs.Sifts.{Rising, Sinking, Least};
 use crate::entry::HeapEntry;
 
 // Why a heap does not take an entry.
-#[derive(Clone, Copy)]
+#[derive(Clone, Copy, Debug, PartialEq, Eq)]
 pub enum HeapRefusal {
     // every slot is in use, or as many entries wait as can
     Full,
@@ -23,7 +23,7 @@ fn comes_before<T: HeapEntry>(heap: &[T], a: usize, b: usize) -> bool
     heap[a].before(&heap[b])
 }
 
-// Lets the last entry rise to its place.
+// Lets the last entry rise to its place. The loop walks up the tree and not along a range.
 fn sift_up<T: HeapEntry>(heap: &mut [T])
     requires { 0 < length heap.old }
     ensures heaped { Rising T.ahead heap.old (length heap.old - 1) → Heaped T.ahead heap.new }
@@ -51,7 +51,7 @@ fn first_child<T: HeapEntry>(heap: &[T], at: usize) -> usize
     }
 }
 
-// Lets the first entry sink to its place.
+// Lets the first entry sink to its place. The loop walks down the tree and not along a range.
 fn sift_down<T: HeapEntry>(heap: &mut [T])
     ensures heaped { Sinking T.ahead heap.old 0 → Heaped T.ahead heap.new }
     ensures shuffled { IsPermutation heap.old heap.new }
@@ -69,10 +69,10 @@ fn sift_down<T: HeapEntry>(heap: &mut [T])
 
 // Adds an entry to the heap in the first `len` slots, which then is in the first `len + 1`.
 pub fn add<T: HeapEntry>(slots: &mut [T], len: usize, x: T) -> Result<(), HeapRefusal>
-    ensures answer { result ≡ add_answer T.room (length slots.old) len }
+    ensures answer { result ≡ add_answer T.MOST (length slots.old) len }
     ensures after { MatchResult result (λ _. Added T.fields T.ahead x len slots.old slots.new) (λ _. slots.new ≡ slots.old) }
 {
-    if len >= T::limit() || len >= slots.len() {
+    if len >= T::MOST || len >= slots.len() {
         return Err(HeapRefusal::Full);
     }
     slots[len] = x;

@@ -1,13 +1,14 @@
 -- A put, as the code finds it in the slots in use, and that there is room.
-use Rattle.std.proofs.Common.{◌≡◌, ℕ, ◌-◌, ◌<◌, Bool, true, cond, ◌&&◌, ltb, take, Ok, Err, count_by, sym, ap, ◌∙◌, arith}
-use native.Mathlib.Nat.{sub-zero}
+use Rattle.std.proofs.Common.{◌≡◌, ℕ, ◌<◌, true, cond, ◌&&◌, ltb, take, Ok, Err, ap, arith}
 use Rattle.std.proofs.lemmas.List.{length-take-le}
 use Rattle.std.proofs.lemmas.Bool.Decides.{nat_tests}
 use Rattle.ready.specs.declared.job.Job.{Job}
 use Rattle.ready.specs.Order.{before}
 use Rattle.ready.specs.Sorted.{ordered}
 use Rattle.ready.proofs.Orderings.{length_ordered, count_by_ordered}
+use Rattle.ready.specs.Waiting.{put_answer}
 use Rattle.ready.proofs.Lawful.{Welcome, room}
+use Rattle.ready.proofs.Puts.{put_answer_counts}
 use Rattle.heap.specs.declared.slots.HeapRefusal.{HeapRefusal}
 use Rattle.heap.specs.declared.slots.HeapRefusal.TheVariants.{Full}
 use Rattle.heap.specs.Heaps.{add_answer}
@@ -15,9 +16,9 @@ use Rattle.heap_queue.specs.declared.queue.HeapQueue.{HeapQueue}
 use Rattle.heap_queue.specs.Waits.{lawful_slots}
 
 module _ (q : HeapQueue) where
-  -- a count over the slots in use is that over the list
-  pub counted : (p : Job → Bool) → count_by p (ordered before (take q.len q.slots)) ≡ count_by p (take (q.len - 0) q.slots)
-  counted p = count_by_ordered before p (take q.len q.slots) ∙ ap (λ n. count_by p (take n q.slots)) (sym (sub-zero q.len))
+  -- the slots in use give the answer of the list
+  pub slots_answer : (j : Job) → put_answer j (take q.len q.slots) ≡ put_answer j (ordered before (take q.len q.slots))
+  slots_answer j = let xs = take q.len q.slots in put_answer_counts j (ordered before xs) xs (λ p. count_by_ordered before p xs)
 
   -- there is a slot for a job that no refusal applies to
   pub slot_left : (j : Job) → Welcome j (ordered before (take q.len q.slots)) → q.len < 128

@@ -1,25 +1,8 @@
 -- The places of a row: where an element is put, and what a rotation leaves.
-use Rattle.std.proofs.Common.{◌≡◌, ℕ, ◌+◌, ◌-◌, ◌<◌, ◌≤◌, Bool, true, false, List, [], ◌∷◌, ◌++◌, length, get_or, take, drop, set, sym, ap, ◌∙◌, arith}
+use Rattle.std.proofs.Common.{◌≡◌, ℕ, ◌+◌, ◌-◌, ◌<◌, ◌≤◌, List, [], ◌∷◌, ◌++◌, length, get_or, take, drop, set, sym, ap, ◌∙◌, arith}
 use borrow.Rule.Slice.PartMut.{put_mid, post_of}
-use Rattle.std.proofs.lemmas.List.{append_assoc, length-append, length-take-le, length-drop, take_more, drop_more, drop_all, take_at, drop_at, take-take, take-set-le, take_more_set, drop-append-le, length-set, get_or-take}
+use Rattle.std.proofs.lemmas.List.{append_assoc, length-append, length-take-le, length-drop, drop_more, take_at, drop_at, take-take, take-set-le, take_more_set, drop-append-le, length-set, get_or-take}
 use Rattle.std.proofs.lemmas.Slice.{between_is}
-use Rattle.ready.specs.Sorted.{placed}
-use Rattle.ready.proofs.Orderings.{placed_past, placed_here}
-
--- the search for the place of x: the elements in front of i come before it
-module _ {X : Type 0} (ahead : X → X → Bool) (x : X) (row : List X) (i : ℕ) (found : placed ahead x row ≡ take i row ++ placed ahead x (drop i row)) where
-  pub place_more : (d : X) → i < length row → ahead (get_or row i d) x ≡ true → placed ahead x row ≡ take (i + 1) row ++ placed ahead x (drop (i + 1) row)
-  place_more d l t =
-      found ∙ ap (λ r. take i row ++ placed ahead x r) (drop_more row i d l) ∙ ap (λ r. take i row ++ r) (placed_past ahead x (get_or row i d) (drop (i + 1) row) t)
-      ∙ sym (append_assoc (take i row) (get_or row i d ∷ []) (placed ahead x (drop (i + 1) row))) ∙ ap (λ r. r ++ placed ahead x (drop (i + 1) row)) (sym (take_more row i d l))
-
-  pub place_here : (d : X) → i < length row → ahead (get_or row i d) x ≡ false → placed ahead x row ≡ take i row ++ x ∷ drop i row
-  place_here d l t =
-      found ∙ ap (λ r. take i row ++ placed ahead x r) (drop_more row i d l) ∙ ap (λ r. take i row ++ r) (placed_here ahead x (get_or row i d) (drop (i + 1) row) t)
-      ∙ ap (λ r. take i row ++ x ∷ r) (sym (drop_more row i d l))
-
-  pub place_last : length row ≤ i → placed ahead x row ≡ take i row ++ x ∷ drop i row
-  place_last l = found ∙ ap (λ r. take i row ++ placed ahead x r) (drop_all i row l) ∙ ap (λ r. take i row ++ x ∷ r) (sym (drop_all i row l))
 
 -- x is written behind the first n, and the places from a on are rotated to the right
 module _ {X : Type 0} (js : List X) (n a : ℕ) (x : X) (l : n < length js) (le : a ≤ n) where

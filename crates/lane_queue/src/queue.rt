@@ -6,14 +6,16 @@ ghost use Rattle.lane_queue.specs.Lanes.{lane_jobs, empty};
 ghost use Rattle.lane_queue.specs.Words.{bit};
 
 use crate::lane::Lane;
+use ready::put::TASKS;
 
 pub mod operations;
 mod search;
 
+// A lane for each task, and a word that marks those in use: so this queue is to keep its jobs.
 #[derive(Drop)]
 pub struct LaneQueue {
     // lane i is for task i + 1
-    lanes: [Lane; 32],
+    lanes: [Lane; TASKS as usize],
     // bit i is set where lane i holds a job
     used: u32,
     // how many jobs wait

@@ -23,11 +23,12 @@ const PERIODS: [u32; 240] = [
 ];
 
 // The period that a code names, or none where the code is 0 or above 240.
+// Tested and indexed by hand, since with `get` reading a sheet takes half as long again.
 pub fn period(code: u16) -> Option<u32>
     ensures { result ≡ named code }
 {
     if code == 0 || code > 240 {
         return None;
     }
-    Some(PERIODS[code as usize - 1])
+    Some(PERIODS[usize::from(code) - 1])
 }

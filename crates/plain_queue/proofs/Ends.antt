@@ -1,9 +1,10 @@
 -- The last slots in use.
-use Rattle.std.proofs.Common.{◌≡◌, ℕ, ◌+◌, ◌-◌, ◌<◌, ◌≤◌, Bool, true, false, ◌⊎◌, List, [], ◌∷◌, ◌++◌, reverse, length, get_or, take, drop, set, sym, refl, ap, ◌∙◌, inl, inr, append_assoc, add-one, arith}
+use Rattle.std.proofs.Common.{◌≡◌, ℕ, zero, suc, Some, ◌+◌, ◌-◌, ◌<◌, ◌≤◌, Bool, false, ◌⊎◌, List, [], ◌∷◌, ◌++◌, reverse, length, get_or, take, drop, set, sym, refl, ap, ◌∙◌, inl, inr, append_assoc, add-one, arith}
 use mathlib.Core.List.{reverse-cons, reverse-append}
-use Rattle.std.proofs.lemmas.List.{take_more, drop-set, take-set-le, set_split, length-reverse, length-take-le}
+use Rattle.std.proofs.lemmas.List.{take_more, set_split, length-reverse, length-take-le}
 use Rattle.std.proofs.lemmas.Bool.{cases_lt}
 use Rattle.ready.specs.Sorted.{placed}
+use Rattle.ready.specs.Waiting.{first_of}
 use Rattle.ready.proofs.Orderings as orderings
 
 module _ {X : Type 0} where
@@ -13,26 +14,19 @@ module _ {X : Type 0} where
       let back : n - 1 + 1 ≡ n = omega arith in
       ap (λ m. reverse (take m xs)) (sym back) ∙ ap reverse (take_more xs (n - 1) d (omega arith)) ∙ reverse-append (take (n - 1) xs) (get_or xs (n - 1) d ∷ [])
 
+  -- what was found to come first, and the others
+  pub first_and_rest : (n : ℕ) (xs : List X) (x : X) → n ≤ length xs → Some x ≡ first_of (reverse (take n xs)) → reverse (take n xs) ≡ x ∷ reverse (take (n - 1) xs)
+  first_and_rest zero xs x l e = let z : ◌≡◌ {A = ℕ} 0 1 = cc in absurd (omega arith)
+  first_and_rest (suc n) xs x l e =
+      let last = reverse_take (suc n) xs x (omega arith) l in
+      let same : Some x ≡ Some (get_or xs (suc n - 1) x) = e ∙ ap first_of last in
+      let is : get_or xs (suc n - 1) x ≡ x = cc in
+      last ∙ ap (λ y. y ∷ reverse (take (suc n - 1) xs)) is
+
   pub length_reverse_take : (n : ℕ) (xs : List X) → n ≤ length xs → length (reverse (take n xs)) ≡ n
   length_reverse_take n xs l = length-reverse (take n xs) ∙ length-take-le n xs l
 
   module _ (ahead : X → X → Bool) where
-    -- a job moves up a slot: `placed` goes on among those below it
-    pub placed_under : (x d : X) (xs : List X) (free : ℕ) (all : List X) → 0 < free → free < length xs → ahead (get_or xs (free - 1) d) x ≡ true → reverse (drop (free + 1) xs) ++ placed ahead x (reverse (take free xs)) ≡ all → let moved = set xs free (get_or xs (free - 1) d) in reverse (drop (free - 1 + 1) moved) ++ placed ahead x (reverse (take (free - 1) moved)) ≡ all
-    placed_under x d xs free all some in_range e inv =
-        let up = get_or xs (free - 1) d in
-        let moved = set xs free up in
-        let back : free - 1 + 1 ≡ free = omega arith in
-        let below : free - 1 ≤ free = omega arith in
-        let over : reverse (drop (free - 1 + 1) moved) ≡ reverse (drop (free + 1) xs) ++ up ∷ [] = ap (λ m. reverse (drop m moved)) back ∙ ap reverse (drop-set xs free up in_range) ∙ reverse-cons up (drop (free + 1) xs) in
-        let under : take (free - 1) moved ≡ take (free - 1) xs = take-set-le (free - 1) xs free up below in
-        let was : placed ahead x (reverse (take free xs)) ≡ up ∷ placed ahead x (reverse (take (free - 1) xs)) = ap (placed ahead x) (reverse_take free xs d some (omega arith)) ∙ orderings.placed_past ahead x up _ e in
-        ap (λ l. l ++ placed ahead x (reverse (take (free - 1) moved))) over
-        ∙ ap (λ l. (reverse (drop (free + 1) xs) ++ up ∷ []) ++ placed ahead x (reverse l)) under
-        ∙ append_assoc (reverse (drop (free + 1) xs)) (up ∷ []) (placed ahead x (reverse (take (free - 1) xs)))
-        ∙ ap (λ l. reverse (drop (free + 1) xs) ++ l) (sym was)
-        ∙ inv
-
     -- nothing below the free slot is ahead: x belongs into it
     pub placed_into : (x d : X) (xs : List X) (free : ℕ) (all : List X) → free < length xs → (0 < free → ahead (get_or xs (free - 1) d) x ≡ false) → reverse (drop (free + 1) xs) ++ placed ahead x (reverse (take free xs)) ≡ all → reverse (set xs free x) ≡ all
     placed_into x d xs free all in_range e inv =

@@ -1,19 +1,20 @@
 -- A put, as the code finds it: what it counts in the slots in use, that there is room, what the slots hold afterwards.
-use Rattle.std.proofs.Common.{◌≡◌, ℕ, ◌+◌, ◌-◌, ◌≤◌, Bool, List, ◌++◌, reverse, length, take, drop, count_by, sym, ap, ◌∙◌, arith}
+use Rattle.std.proofs.Common.{◌≡◌, ℕ, ◌+◌, ◌-◌, ◌≤◌, List, ◌++◌, reverse, length, take, drop, ap, ◌∙◌, arith}
 use native.Mathlib.Nat.{sub-zero}
 use Rattle.std.proofs.lemmas.List.{length-take-le, take_at, take-take}
 use Rattle.ready.specs.declared.job.Job.{Job}
 use Rattle.ready.specs.Order.{before}
 use Rattle.ready.specs.Sorted.{placed}
-use Rattle.ready.specs.Waiting.{Lawful}
+use Rattle.ready.specs.Waiting.{put_answer, Lawful}
 use Rattle.ready.proofs.Counting.{count_by_reverse}
 use Rattle.ready.proofs.Lawful.{Welcome, room}
+use Rattle.ready.proofs.Puts.{put_answer_counts}
 use Rattle.plain_queue.specs.Slots.{last_first}
 use Rattle.plain_queue.proofs.Ends.{length_reverse_take}
 
--- a count over the slots in use is that over the list
-pub counted : (count : ℕ) (slots : List Job) (p : Job → Bool) → count_by p (last_first count slots) ≡ count_by p (take (count - 0) slots)
-counted count slots p = count_by_reverse p (take count slots) ∙ ap (λ n. count_by p (take n slots)) (sym (sub-zero count))
+-- the slots in use give the answer of the list
+pub slots_answer : (j : Job) (count : ℕ) (slots : List Job) → put_answer j (take count slots) ≡ put_answer j (last_first count slots)
+slots_answer j count slots = put_answer_counts j (last_first count slots) (take count slots) (λ p. count_by_reverse p (take count slots))
 
 -- there is a slot for a job that no refusal applies to
 pub slot_left : (j : Job) (count : ℕ) (slots : List Job) → Lawful (last_first count slots) → count ≤ length slots → Welcome j (last_first count slots) → count + 1 ≤ 128

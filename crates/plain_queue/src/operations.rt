@@ -4,25 +4,18 @@ ghost use Rattle.plain_queue.specs.Waiting.{waiting_of};
 ghost use Rattle.ready.proofs.Lawful.{lawful_had};
 
 use crate::queue::PlainQueue;
-use crate::slots::{count_of, place, waits};
+use crate::slots::place;
 use ready::job::Job;
+use ready::put::{MOST_JOBS, check_put};
 use ready::queue::ReadyQueue;
 use ready::refusal::PutRefusal;
-
-// What stands in a slot that was never used.
-const NO_JOB: Job = Job {
-    key: 0,
-    task: 0,
-    number: 0,
-    left: 0,
-};
 
 impl PlainQueue {
     // A queue in which no job waits.
     pub fn new() -> PlainQueue
         ensures { waiting_of result ≡ [] }
     {
-        let slots = [NO_JOB; 128];
+        let slots = [Job::default(); MOST_JOBS];
         PlainQueue { slots, count: 0 }
     }
 }
@@ -41,31 +34,18 @@ impl ReadyQueue for PlainQueue {
     }
 
     fn first(&self) -> Option<Job> {
-        match self.count {
-            0 => None,
-            used => Some(self.slots[used - 1]),
-        }
+        self.slots[..self.count].last().copied()
     }
 
     fn take(&mut self) -> Option<Job> {
-        if self.count == 0 {
-            return None;
-        }
+        let job = self.first()?;
         self.count -= 1;
-        Some(self.slots[self.count])
+        Some(job)
     }
 
     fn put(&mut self, job: Job) -> Result<(), PutRefusal> {
-        if job.task == 0 || job.task > 32 {
-            return Err(PutRefusal::NoSuchTask);
-        }
-        let used = &self.slots[0..self.count];
-        if waits(used, job.task, job.number) {
-            return Err(PutRefusal::AlreadyWaits);
-        }
-        if count_of(used, job.task) >= 4 {
-            return Err(PutRefusal::FourWait);
-        }
+        let used = &self.slots[..self.count];
+        check_put(&job, used)?;
         // there is room: a lawful list has at most four jobs of each of 32 tasks
         place(&mut self.slots[0..self.count + 1], job);
         self.count += 1;

@@ -3,3 +3,4 @@
 
 pub mod lines;
 pub mod run;
+pub mod sheets;

@@ -10,11 +10,7 @@ use sheet::fault::Fault;
 pub fn fault_line(fault: Fault) -> Line
     ensures { result ≡ fault_line fault }
 {
-    Line::Sheet {
-        number: fault.number(),
-        layer: fault.layer(),
-        row: fault.row(),
-    }
+    Line::Sheet(fault)
 }
 
 // The last line of a log.

@@ -1,51 +1,36 @@
 // A sheet and letters in, the log out.
-ghost use Rattle.std.specs.Prelude.{◌≤◌, length, IfOk};
+ghost use Rattle.std.specs.Prelude.{◌≤◌, IfOk};
 
 use crate::lines::{fault_line, last_line};
+use crate::sheets::judge_sheet;
 use duty_bench::stream::stream;
-use duty_log::line::{LONGEST, Line};
+use duty_log::line::Line;
+use duty_log::logged::Logged;
 use plain_queue::queue::PlainQueue;
-use sheet::table::Table;
 use std::io;
 use std::io::{Read, Write};
-use verdict::judge::judge;
+use verdict::judged::Judged;
 
 // One byte more than the longest sheet has: a longer one gets the same fault from these as it would whole.
 const ROOM: usize = 913;
 
 // Fills the buffer from the input as far as either goes, and gives the number of bytes.
-fn fill(input: &mut impl Read, buffer: &mut [u8]) -> io::Result<usize>
-    ensures { IfOk result (λ n. n ≤ length buffer.old) }
+fn fill(input: &mut impl Read, buffer: &mut [u8; ROOM]) -> io::Result<usize>
+    ensures { IfOk result (λ n. n ≤ 913) }
 {
-    let mut count = 0;
-    for _ in 0..ROOM {
-        let more = input.read(&mut buffer[count..])?;
-        if more == 0 {
-            break;
-        }
-        count += more;
-    }
-    Ok(count)
+    let count = io::copy(&mut input.take(ROOM as u64), &mut &mut buffer[..])?;
+    // never more than that, which no clause of the copy says
+    Ok(count.min(ROOM as u64) as usize)
 }
 
-// Hands a line to the writer.
-fn print(line: &Line, output: &mut impl Write) -> io::Result<()> {
-    let mut buffer = [0u8; LONGEST];
-    match line.write(&mut buffer) {
-        Ok(count) => output.write_all(&buffer[0..count]),
-        Err(_) => unreachable(),
-    }
-}
-
-// Judges the table, runs it on the letters and prints the log.
-fn run_table(table: Table, letters: &mut impl Read, output: &mut impl Write) -> io::Result<()> {
-    let judged = judge(table);
-    print(&Line::Head, output)?;
-    print(&Line::Verdict(judged.verdict().number()), output)?;
+// Runs the judged table on the letters and prints the log.
+fn run_judged(judged: Judged, letters: &mut impl Read, output: &mut impl Write) -> io::Result<()> {
+    Line::Head.print(output)?;
+    Line::Verdict(judged.verdict()).print(output)?;
     output.flush()?;
     let (closing, went) = stream(judged, PlainQueue::new(), letters, output);
     went?;
-    print(&last_line(&closing), output)
+    last_line(&closing).print(output)
 }
 
 // Reads a sheet, and runs it on the letters; or prints the line of a refused sheet.
@@ -56,10 +41,9 @@ pub fn run(
 ) -> io::Result<()> {
     let mut bytes = [0u8; ROOM];
     let count = fill(sheet, &mut bytes)?;
-    let mut table = Table::new();
-    match table.read(&bytes[0..count]) {
-        Ok(()) => run_table(table, letters, output)?,
-        Err(fault) => print(&fault_line(fault), output)?,
+    match judge_sheet(&bytes[..count]) {
+        Ok(judged) => run_judged(judged, letters, output)?,
+        Err(fault) => fault_line(fault).print(output)?,
     }
     output.flush()
 }

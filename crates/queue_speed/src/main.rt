@@ -28,6 +28,7 @@ fn work<Q: ReadyQueue>(mut queue: Q, tasks: u32) -> u64 {
     for round in 0..ROUNDS {
         if let Some(job) = queue.take() {
             sum = sum.wrapping_add(u64::from(job.key));
+            // each field is written out: `..job` saves one line, and would time the copy of `left` too
             let _ = queue.put(Job {
                 key: job
                     .key

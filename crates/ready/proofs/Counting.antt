@@ -1,9 +1,9 @@
 -- How many elements of a list pass a test.
-use Rattle.std.proofs.Common.{◌≡◌, ℕ, zero, suc, ◌+◌, ◌<◌, ◌≤◌, Bool, true, false, cond, List, [], ◌∷◌, ◌++◌, reverse, length, get_or, count_by, sym, refl, ap, ◌∙◌, subst, ⊎_elim, arith}
-use mathlib.Core.List.{reverse-cons}
-use Rattle.std.specs.List.{AllByRecursion}
-use Rattle.std.proofs.lemmas.List.Sums.{sum_by-cons, sum_by-append, sum_by_push, get_or-le-sum_by, count_by-le-length}
-use Rattle.std.proofs.lemmas.Bool.{cases_Bool}
+use Rattle.std.proofs.Common.{◌≡◌, ℕ, zero, suc, ◌+◌, ◌<◌, ◌≤◌, Bool, true, false, cond, ◌||◌, leb, List, [], ◌∷◌, ◌++◌, reverse, length, get_or, count_by, sym, refl, ap, ◌∙◌, subst, ⊎_elim, arith}
+use Rattle.std.specs.List.{AllByRecursion, list_any}
+use Rattle.std.proofs.lemmas.List.Sorted.{IsPermutation-reverse, sum_by-IsPermutation}
+use Rattle.std.proofs.lemmas.List.Sums.{sum_by-cons, sum_by-append, get_or-le-sum_by, count_by-le-length}
+use Rattle.std.proofs.lemmas.Bool.{cases_Bool, le-leb}
 
 module _ {X : Type 0} (p : X → Bool) where
   pub count_by_cons : (x : X) (xs : List X) → count_by p (x ∷ xs) ≡ cond (p x) 1 0 + count_by p xs
@@ -19,8 +19,7 @@ module _ {X : Type 0} (p : X → Bool) where
   count_by_append xs ys = sum_by-append (λ y. cond (p y) 1 0) xs ys
 
   pub count_by_reverse : (xs : List X) → count_by p (reverse xs) ≡ count_by p xs
-  count_by_reverse [] = refl
-  count_by_reverse (x ∷ xs) = ap (count_by p) (reverse-cons x xs) ∙ omega (arith, sum_by_push (λ y. cond (p y) 1 0) (reverse xs) x, count_by_reverse xs, count_by_cons x xs)
+  count_by_reverse xs = sum_by-IsPermutation (λ y. cond (p y) 1 0) xs (reverse xs) (IsPermutation-reverse xs)
 
   -- an element that passes is counted
   pub count_by_has : (xs : List X) (i : ℕ) (d : X) → i < length xs → p (get_or xs i d) ≡ true → 1 ≤ count_by p xs
@@ -36,6 +35,14 @@ module _ {X : Type 0} (p : X → Bool) where
   none_passes (x ∷ xs) h = ⊎_elim
       (λ (e : p x ≡ true). absurd (omega (arith, count_by_yes x xs e)))
       (λ (e : p x ≡ false). (e, none_passes xs (sym (count_by_no x xs e) ∙ h)))
+      (cases_Bool (p x))
+
+  -- an element passes just where the count is not 0
+  pub list_any_counts : (xs : List X) → list_any p xs ≡ leb 1 (count_by p xs)
+  list_any_counts [] = refl
+  list_any_counts (x ∷ xs) = ⊎_elim
+      (λ (e : p x ≡ true). ap (λ b. b || list_any p xs) e ∙ sym (le-leb 1 _ (omega (arith, count_by_yes x xs e))))
+      (λ (e : p x ≡ false). ap (λ b. b || list_any p xs) e ∙ list_any_counts xs ∙ ap (leb 1) (sym (count_by_no x xs e)))
       (cases_Bool (p x))
 
   -- where all are counted, all pass

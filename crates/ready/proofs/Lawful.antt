@@ -5,7 +5,7 @@ use mathlib.Core.Logic.{∥∥₁_elim}
 use mathlib.Core.HLevel.{Unit-prop, ×_prop}
 use native.Mathlib.Bridge.{le_prop}
 use Rattle.std.specs.List.{AllByRecursion}
-use Rattle.std.proofs.lemmas.Bool.{and_from, and_parts, eq-eqb, eqb-true, leb-false}
+use Rattle.std.proofs.lemmas.Bool.{and_from, and_parts, eq-eqb, eqb-true}
 use Rattle.std.proofs.lemmas.Bool.Decides.{nat_tests}
 use Rattle.ready.specs.declared.job.Job.{Job}
 use Rattle.ready.specs.Order.{before}
@@ -55,14 +55,6 @@ pub record Welcome (j : Job) (js : List Job) : Type 0 where
   pub known : stray j.task ≡ false
   pub new : count_by (is_job j.task j.number) js < 1
   pub few : count_by (of_task j.task) js < 4
-
--- as code finds it: us has the jobs of js, and n of them are of the job's task
-pub welcome : (j : Job) (js us : List Job) → ((p : Job → Bool) → count_by p js ≡ count_by p us) → (n : ℕ) → (j.task ≡ 0 → ⊥) → j.task ≤ 32 → false ≡ leb 1 (count_by (is_job j.task j.number) us) → n ≡ count_by (of_task j.task) us → n < 4 → Welcome j js
-welcome j js us same n some most new counts few = record {
-  known = known_task j.task some most;
-  new = omega (arith, same (is_job j.task j.number), leb-false 1 _ (sym new));
-  few = omega (arith, same (of_task j.task));
-}
 
 -- ks has the jobs of js, and j
 module _ (j : Job) (js ks : List Job) (adds : (p : Job → Bool) → count_by p ks ≡ cond (p j) 1 0 + count_by p js) (w : Welcome j js) where

@@ -1,11 +1,11 @@
 -- Elements at their places: what `placed` and `ordered` keep, and that they give a sorted list.
-use Rattle.std.proofs.Common.{◌≡◌, ℕ, suc, ◌+◌, Bool, true, false, cond, List, [], ◌∷◌, ◌++◌, length, sum_by, count_by, refl, ap, ◌∙◌, subst, arith}
-use Rattle.std.specs.List.{AllByRecursion}
+use Rattle.std.proofs.Common.{◌≡◌, ℕ, suc, ◌+◌, Bool, true, false, cond, List, [], ◌∷◌, ◌++◌, length, take, drop, sum_by, count_by, refl, ap, ◌∙◌, subst, ⊎_elim, arith}
+use Rattle.std.specs.List.{AllByRecursion, prefix_len}
 use Rattle.std.specs.List.Sorted.{IsPermutation}
 use Rattle.std.proofs.ByRecursion.{All-weaker, all_shuffled}
 use Rattle.std.proofs.lemmas.List.Sorted.{IsPermutation-refl, IsPermutation-sym, IsPermutation-trans, IsPermutation-cons, IsPermutation-swap, length_permutation, sum_by-IsPermutation}
 use Rattle.std.proofs.lemmas.List.Sums.{sum_by-cons}
-use Rattle.std.proofs.lemmas.Bool.{both_ways, cond_both}
+use Rattle.std.proofs.lemmas.Bool.{both_ways, cond_both, cases_Bool}
 use Rattle.ready.specs.Sorted.{placed, ordered, Sorted}
 
 module _ {X : Type 0} (ahead : X → X → Bool) where
@@ -15,6 +15,17 @@ module _ {X : Type 0} (ahead : X → X → Bool) where
 
   pub placed_here : (x y : X) (ys : List X) → ahead y x ≡ false → placed ahead x (y ∷ ys) ≡ x ∷ y ∷ ys
   placed_here x y ys e = ap (λ b. cond b (y ∷ placed ahead x ys) (x ∷ y ∷ ys)) e
+
+  -- x stands behind those from the front on that come before it
+  pub placed_behind_prefix : (x : X) (xs : List X) → let n = prefix_len (λ y. ahead y x) xs in placed ahead x xs ≡ take n xs ++ x ∷ drop n xs
+  placed_behind_prefix x [] = refl
+  placed_behind_prefix x (y ∷ ys) = ⊎_elim
+      (λ (e : ahead y x ≡ true).
+      let n = prefix_len (λ z. ahead z x) ys in
+      let next : 1 + n ≡ suc n = omega arith in
+      simp (e, next) (ap (λ l. y ∷ l) (placed_behind_prefix x ys)))
+      (λ (e : ahead y x ≡ false). simp e)
+      (cases_Bool (ahead y x))
 
   -- an element that none comes before is placed in front
   pub placed_foremost : (x : X) (xs : List X) → AllByRecursion (λ y. ahead y x ≡ false) xs → placed ahead x xs ≡ x ∷ xs

@@ -1,5 +1,5 @@
 -- What a put answers, by the first refusal that applies, and the list that it leaves.
-use Rattle.std.proofs.Common.{◌≡◌, ℕ, ◌+◌, ◌<◌, ◌≤◌, Bool, true, false, cond, leb, List, Ok, Err, sum_by, count_by, Result, refl, ap, ◌∙◌, arith}
+use Rattle.std.proofs.Common.{◌≡◌, ℕ, ◌+◌, ◌<◌, ◌≤◌, Bool, true, false, cond, leb, List, Ok, Err, sum_by, count_by, Result, sym, refl, ap, ◌∙◌, arith}
 use Rattle.std.specs.List.{AllByRecursion}
 use Rattle.std.proofs.lemmas.Bool.{cond_both, le-leb, lt-leb, leb-false}
 use Rattle.ready.specs.declared.job.Job.{Job}
@@ -16,6 +16,9 @@ use Rattle.ready.proofs.Lawful.{Welcome, lawful_placed}
 abbrev answer : Bool → Bool → Bool → Result Unit PutRefusal
 answer s w f = cond s (Err NoSuchTask) (cond w (Err AlreadyWaits) (cond f (Err FourWait) (Ok tt)))
 
+ok_is_no_refusal : (r : PutRefusal) → ◌≡◌ {A = Result Unit PutRefusal} (Err r) (Ok tt) → ⊥
+ok_is_no_refusal r e = let z : ◌≡◌ {A = ℕ} 0 1 = cc in omega arith
+
 module _ (j : Job) (js : List Job) where
   -- the answer
 
@@ -30,6 +33,19 @@ module _ (j : Job) (js : List Job) where
 
   pub answers_ok : Welcome j js → put_answer j js ≡ Ok tt
   answers_ok w = by_tests false false false w.known (lt-leb 1 _ w.new) (lt-leb 4 _ w.few)
+
+  -- it counts, so it does not depend on the order of the jobs
+  pub put_answer_counts : (us : List Job) → ((p : Job → Bool) → count_by p js ≡ count_by p us) → put_answer j us ≡ put_answer j js
+  put_answer_counts us same = λ i. answer (stray j.task) (leb 1 (sym (same (is_job j.task j.number)) i)) (leb 4 (sym (same (of_task j.task)) i))
+
+  pub welcome_where_ok : put_answer j js ≡ Ok tt → Welcome j js
+  welcome_where_ok = by _ _ _ refl refl refl
+    where
+      by : (s w f : Bool) → stray j.task ≡ s → leb 1 (count_by (is_job j.task j.number) js) ≡ w → leb 4 (count_by (of_task j.task) js) ≡ f → answer s w f ≡ Ok tt → Welcome j js
+      by true w f a b c e = absurd (ok_is_no_refusal NoSuchTask e)
+      by false true f a b c e = absurd (ok_is_no_refusal AlreadyWaits e)
+      by false false true a b c e = absurd (ok_is_no_refusal FourWait e)
+      by false false false a b c e = record { known = a; new = leb-false 1 _ b; few = leb-false 4 _ c }
 
   -- the list
 

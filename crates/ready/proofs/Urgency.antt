@@ -1,8 +1,7 @@
 -- The order of urgency.
-use Rattle.std.proofs.Common.{◌≡◌, ◌≤◌, true, false, not, arith}
+use Rattle.std.proofs.Common.{◌≡◌, ◌≤◌, true, false, arith}
 use Rattle.std.proofs.lemmas.Bool.Decides.{nat_tests}
 use Rattle.ready.specs.declared.job.Job.{Job}
-use Rattle.ready.specs.Laws.{Differ}
 use Rattle.ready.specs.Order.{before}
 
 -- of two jobs at most one is before the other
@@ -12,13 +11,6 @@ before_one_way a b h = grind (arith, nat_tests)
 -- a job that is not before a second is not before a third which the second is not before
 pub not_before_chain : (a b c : Job) → before a b ≡ false → before b c ≡ false → before a c ≡ false
 not_before_chain a b c h k = grind (arith, nat_tests)
-
--- of two jobs that differ just one is before the other
-pub just_one_before : (a b : Job) → Differ a b → before b a ≡ not (before a b)
-just_one_before a b h = grind (arith, nat_tests)
-
-pub before_chain : (a b c : Job) → before a b ≡ true → before b c ≡ true → before a c ≡ true
-before_chain a b c h k = grind (arith, nat_tests)
 
 pub before_self : (a : Job) → before a a ≡ false
 before_self a = grind (arith, nat_tests)

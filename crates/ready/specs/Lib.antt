@@ -1,3 +1,4 @@
+pub mod Jobs
 pub mod Sorted
 pub mod Order
 pub mod Refusals

@@ -3,6 +3,7 @@
 
 pub mod job;
 pub mod order;
+pub mod put;
 pub mod queue;
 pub mod refusal;
 pub mod theorems;

@@ -6,15 +6,10 @@ use crate::job::Job;
 
 impl Job {
     // Whether this job is more urgent than `other`: by key, then task, then number.
+    // It is no `Ord`: urgency leaves out `left`, so two jobs may be unequal with neither before the other.
     pub fn is_before(&self, other: &Job) -> bool
         ensures { result ≡ before self.now other.now }
     {
-        if self.key != other.key {
-            self.key < other.key
-        } else if self.task != other.task {
-            self.task < other.task
-        } else {
-            self.number < other.number
-        }
+        (self.key, self.task, self.number) < (other.key, other.task, other.number)
     }
 }

@@ -2,14 +2,14 @@
 ghost use Rattle.std.specs.Prelude.{◌≡◌};
 ghost use Rattle.ready.specs.Refusals.{number_of};
 
-#[derive(Clone, Copy)]
+#[derive(Clone, Copy, Debug, PartialEq, Eq)]
 pub enum PutRefusal {
     // the task is 0 or above 32
-    NoSuchTask,
+    NoSuchTask = 16,
     // the job of that task and number waits already
-    AlreadyWaits,
+    AlreadyWaits = 17,
     // four jobs of that task wait
-    FourWait,
+    FourWait = 18,
 }
 
 impl PutRefusal {
@@ -17,10 +17,6 @@ impl PutRefusal {
     pub fn number(self) -> u32
         ensures { result ≡ number_of self }
     {
-        match self {
-            PutRefusal::NoSuchTask => 16,
-            PutRefusal::AlreadyWaits => 17,
-            PutRefusal::FourWait => 18,
-        }
+        self as u32
     }
 }

@@ -7,31 +7,22 @@ use Rattle.sheet.specs.Rows.{units}
 use Rattle.sheet.specs.Tables.{rows_of}
 use Rattle.verdict.specs.Test.{row_at}
 use Rattle.ready.specs.declared.job.Job.{Job}
-use Rattle.ready.specs.Waiting.{put_answer, put_list}
+use Rattle.ready.specs.Waiting.{put_answer}
 use Rattle.ready.proofs.Counting.{count_by_cons, count_by_no}
 use Rattle.ready.proofs.Puts.{count_by_put}
 use Rattle.duty_log.specs.declared.line.Event.{Event}
 use Rattle.duty_log.specs.declared.line.Event.TheVariants.{PutBack, Held, Done, Idle}
 use Rattle.rules.specs.declared.counts.TaskCounts.{TaskCounts}
-use Rattle.rules.specs.declared.hand.Hand.{Hand}
-use Rattle.rules.specs.declared.hand.Hand.TheVariants.{Empty, Holding}
-use Rattle.rules.specs.State.{task_at, pending_of}
+use Rattle.rules.specs.State.{task_at}
 use Rattle.rules.specs.Release.{next_job, with_release}
 use Rattle.rules.specs.Tick.{worked, event_at, one_done, with_tick}
 use Rattle.rules.specs.Promises.{EveryRun}
 use Rattle.rules.specs.Accounts.{Proper, untouched, BegunCounted}
 use Rattle.rules.proofs.Tasks.{sum_with_task, opened_sum}
 use Rattle.rules.proofs.Kept.{Ruled, ruled}
-use Rattle.rules.proofs.Releases.{accepted}
+use Rattle.rules.proofs.Releases.{count_pending_put, accepted}
 use Rattle.rules.proofs.Ticks.{turn_pending, nobody_pending, Tells, event_tells, pending_after, put_back}
 use Rattle.rules.proofs.Induction.{Any, Keeps, kept_by_every_run}
-
--- the pending jobs after a put, counted
-count_pending_put : (p : Job → Bool) (h : Hand) (j : Job) (js : List Job) → put_answer j js ≡ Ok tt
-    → count_by p (pending_of h (put_list j js)) ≡ cond (p j) 1 0 + count_by p (pending_of h js)
-count_pending_put p Empty j js fits = count_by_put j js p fits
-count_pending_put p (Holding k holds) j js fits =
-    omega (arith, count_by_put j js p fits, count_by_cons p k (put_list j js), count_by_cons p k js)
 
 -- a job that is no longer counted once it has run
 count_after_first : (p : Job → Bool) (e : Event) (j : Job) (left holds most : ℕ) (js : List Job) → Tells e left holds most

@@ -1,13 +1,10 @@
--- Questions alter nothing, and a run makes its calls in order.
+-- A run makes its calls in order.
 use Rattle.std.proofs.Common.{◌≡◌, List, [], ◌∷◌, ◌++◌, refl}
 use Rattle.sheet.specs.declared.row.Row.{Row}
 use Rattle.rules.specs.declared.call.Call.{Call}
 use Rattle.rules.specs.State.{State}
 use Rattle.rules.specs.Run.{called, run_from}
-use Rattle.rules.specs.Progress.{EveryQuestion, CallsInOrder}
-
-pub every_question : EveryQuestion
-every_question rows s = record { counts = refl; task = λ i. refl; first = refl }
+use Rattle.rules.specs.Progress.{CallsInOrder}
 
 pub run_append : (rows : List Row) (xs ys : List Call) (s : State) → run_from rows (xs ++ ys) s ≡ run_from rows ys (run_from rows xs s)
 run_append rows [] ys s = refl

@@ -1,6 +1,7 @@
 -- A task's jobs get the units that they ask, unless they are ended early.
-use Rattle.std.proofs.Common.{◌≡◌, ℕ, suc, ◌+◌, ◌-◌, ◌*◌, ◌<◌, ◌≤◌, Bool, true, false, cond, eqb, ltb, List, ◌∷◌, length, Some, None, Ok, sym, refl, ap, ◌∙◌, subst, inl, inr, arith}
+use Rattle.std.proofs.Common.{◌≡◌, ℕ, suc, ◌+◌, ◌-◌, ◌*◌, ◌<◌, ◌≤◌, Bool, true, false, cond, eqb, ltb, List, ◌∷◌, length, Some, None, Option, Ok, sym, refl, ap, ◌∙◌, subst, inl, inr, arith}
 use Rattle.std.specs.List.{AllByRecursion}
+use Rattle.std.proofs.lemmas.List.Elements.{recursion_from_All}
 use Rattle.std.proofs.lemmas.List.Sums.{sum_by-cons}
 use Rattle.std.proofs.lemmas.Bool.{eqb-true, eq-eqb, ne_eqb, both_ways}
 use Rattle.sheet.specs.declared.row.Row.{Row}
@@ -13,18 +14,19 @@ use Rattle.ready.proofs.Puts.{sum_by_put}
 use Rattle.duty_log.specs.declared.line.Event.{Event}
 use Rattle.duty_log.specs.declared.line.Event.TheVariants.{PutBack, Held, Done, Idle}
 use Rattle.rules.specs.declared.counts.TaskCounts.{TaskCounts}
-use Rattle.rules.specs.declared.hand.Hand.{Hand}
-use Rattle.rules.specs.declared.hand.Hand.TheVariants.{Empty, Holding}
+use Rattle.rules.specs.declared.hand.Held.{Held as HeldJob}
 use Rattle.rules.specs.State.{State, task_at, pending_of, pending, opened}
 use Rattle.rules.specs.Release.{due, next_job, release}
-use Rattle.rules.specs.Tick.{Letter, run, hold, finish, runs, nobody, turn_of, worked, event_of, event_at, one_done, worked_state, idle_state, checked}
-use Rattle.rules.specs.Step.{letter_of}
+use Rattle.rules.specs.declared.letter.Letter.{Letter}
+use Rattle.rules.specs.declared.letter.Letter.TheVariants.{Run, Hold, Finish}
+use Rattle.rules.specs.Tick.{runs, nobody, turn_of, worked, event_of, event_at, one_done, worked_state, idle_state, checked}
+use Rattle.rules.specs.Letters.{letter_of}
 use Rattle.rules.specs.Promises.{EveryRun}
 use Rattle.rules.specs.Accounts.{Proper, left_of, GivenAtMost, Unended, GivenExactly}
 use Rattle.rules.proofs.Tasks.{Raised, raised_release, raised_tick, opened_at}
 use Rattle.rules.proofs.Kept.{Ruled, ruled, Kept, Unmissed}
-use Rattle.rules.proofs.Releases.{accepted}
-use Rattle.rules.proofs.Ticks.{turn_pending, nobody_pending, Tells, event_tells, pending_after, put_back}
+use Rattle.rules.proofs.Releases.{sum_pending_put, accepted}
+use Rattle.rules.proofs.Ticks.{turn_pending, nobody_pending, Tells, event_tells, cond_same, pending_after, put_back}
 use Rattle.rules.proofs.Induction.{Any, Keeps, kept_by_run, kept_by_every_run}
 
 -- the units that a job has left, if it is of task i
@@ -38,11 +40,9 @@ left_put : (i : ℕ) (j : Job) (js : List Job) → put_answer j js ≡ Ok tt →
 left_put i j js fits = sum_by_put j js (its_left i) fits
 
 -- the units left of the pending jobs after a put
-left_pending_put : (i : ℕ) (h : Hand) (j : Job) (js : List Job) → put_answer j js ≡ Ok tt
+left_pending_put : (i : ℕ) (h : Option HeldJob) (j : Job) (js : List Job) → put_answer j js ≡ Ok tt
     → left_of i (pending_of h (put_list j js)) ≡ its_left i j + left_of i (pending_of h js)
-left_pending_put i Empty j js fits = left_put i j js fits
-left_pending_put i (Holding k holds) j js fits =
-    omega (arith, left_put i j js fits, left_cons i k (put_list j js), left_cons i k js)
+left_pending_put i h j js fits = sum_pending_put (its_left i) h j js fits
 
 -- the units that a job loses where it is ended with so many left
 abbrev lost_by : Event → ℕ → ℕ
@@ -171,14 +171,14 @@ every_at_most t calls = kept_by_every_run (rows_of t) (ruled t) (GivenAtMost (ro
 -- Exactly.
 
 -- a job that is not ended by the letter f is done only where no unit is left
-none_lost : (l : Letter) (left holds most : ℕ) → (l ≡ finish → ⊥) → lost_by (event_of l left holds most) left ≡ 0
-none_lost finish left holds most ne = absurd (ne refl)
-none_lost run left holds most ne = go (eqb left 0) refl
+none_lost : (l : Letter) (left holds most : ℕ) → (l ≡ Finish → ⊥) → lost_by (event_of l left holds most) left ≡ 0
+none_lost Finish left holds most ne = absurd (ne refl)
+none_lost Run left holds most ne = go (eqb left 0) refl
   where
     go : (b : Bool) → eqb left 0 ≡ b → lost_by (cond b Done PutBack) left ≡ 0
     go true e = eqb-true left 0 e
     go false e = refl
-none_lost hold left holds most ne = go (eqb left 0) (ltb holds most) refl
+none_lost Hold left holds most ne = go (eqb left 0) (ltb holds most) refl
   where
     go : (b c : Bool) → eqb left 0 ≡ b → lost_by (cond b Done (cond c Held PutBack)) left ≡ 0
     go true c e = eqb-true left 0 e
@@ -186,10 +186,10 @@ none_lost hold left holds most ne = go (eqb left 0) (ltb holds most) refl
     go false false e = refl
 
 -- the letter f is read from no other character
-not_finish : (c : ℕ) (l : Letter) → eqb c 102 ≡ false → letter_of c ≡ Some l → l ≡ finish → ⊥
+not_finish : (c : ℕ) (l : Letter) → eqb c 102 ≡ false → letter_of c ≡ Some l → l ≡ Finish → ⊥
 not_finish c l f x y = go (eqb c 114) (eqb c 104) (eqb c 102) f x
   where
-    go : (a b d : Bool) → d ≡ false → cond a (Some run) (cond b (Some hold) (cond d (Some finish) None)) ≡ Some l → ⊥
+    go : (a b d : Bool) → d ≡ false → cond a (Some Run) (cond b (Some Hold) (cond d (Some Finish) None)) ≡ Some l → ⊥
     go true b d e z = let w : ◌≡◌ {A = ℕ} 0 1 = cc in omega arith
     go false true d e z = let w : ◌≡◌ {A = ℕ} 0 1 = cc in omega arith
     go false false true e z = both_ways true e refl
@@ -197,10 +197,6 @@ not_finish c l f x y = go (eqb c 114) (eqb c 104) (eqb c 102) f x
 
 abbrev Exactly : List Row → State → Type 0
 Exactly rows s = (i : ℕ) → 1 ≤ i → i ≤ length rows → had i s ≡ asked rows i s
-
-no_units : (b : Bool) → ◌≡◌ {A = ℕ} (cond b 0 0) 0
-no_units true = refl
-no_units false = refl
 
 exactly_kept : (rows : List Row) → Ruled rows → Keeps rows Unended (Exactly rows)
 exactly_kept rows ok = record {
@@ -210,9 +206,9 @@ exactly_kept rows ok = record {
   by_work = λ s kept c l a x j holds js turn m i low high.
       let z = had_worked rows ok s kept l j holds js turn i low in
       let w : ◌≡◌ {A = ℕ} (cond (of_task i j) (lost_by (event_at rows l j holds) (j.left - 1)) 0) 0
-      = ap (λ (n : ℕ). cond (of_task i j) n 0) (none_lost l (j.left - 1) holds (row_at j.task rows).hold (not_finish c l a x)) ∙ no_units (of_task i j) in
+      = ap (λ (n : ℕ). cond (of_task i j) n 0) (none_lost l (j.left - 1) holds (row_at j.task rows).hold (not_finish c l a x)) ∙ cond_same (of_task i j) in
       omega (arith, m i low high, z.0, z.1);
 }
 
 pub given_exactly : GivenExactly
-given_exactly t calls unended = kept_by_run (rows_of t) (ruled t) Unended (Exactly (rows_of t)) (exactly_kept (rows_of t) (ruled t)) calls unended
+given_exactly t calls unended = kept_by_run (rows_of t) (ruled t) Unended (Exactly (rows_of t)) (exactly_kept (rows_of t) (ruled t)) calls (recursion_from_All Unended calls unended)

@@ -3,13 +3,15 @@ use Rattle.std.proofs.Common.{◌≡◌, ℕ, zero, suc, ◌<◌, ◌≤◌, Boo
 use Rattle.std.specs.List.{AllByRecursion}
 use Rattle.sheet.specs.declared.row.Row.{Row}
 use Rattle.ready.specs.declared.job.Job.{Job}
-use Rattle.rules.specs.declared.refusal.StepRefusal.TheVariants.{LastClock}
+use Rattle.duty_log.specs.declared.refusal.StepRefusal.TheVariants.{LastClock}
 use Rattle.rules.specs.declared.call.Call.{Call}
 use Rattle.rules.specs.declared.call.Call.TheVariants.{Step, Counts, TaskCounts as AskTask, First}
 use Rattle.rules.specs.State.{State, opened}
 use Rattle.rules.specs.Release.{due, release, releases, released}
-use Rattle.rules.specs.Tick.{Letter, Turn, nobody, runs, turn_of, event_at, worked_state, idle_state, after_turn, checked}
-use Rattle.rules.specs.Step.{last_clock, letter_of, refused, step_by, step_running, step}
+use Rattle.rules.specs.declared.letter.Letter.{Letter}
+use Rattle.rules.specs.Tick.{Turn, nobody, runs, turn_of, event_at, worked_state, idle_state, after_turn, checked}
+use Rattle.rules.specs.Letters.{letter_of}
+use Rattle.rules.specs.Step.{last_clock, refused, step_by, step_running, step}
 use Rattle.rules.specs.Run.{called, run_from, after_run}
 use Rattle.rules.proofs.Kept.{Ruled, Kept, Unmissed, Sound}
 use Rattle.rules.proofs.Releases.{Between, kept_releases}

@@ -16,12 +16,12 @@ use Rattle.ready.proofs.Puts.{put_placed, put_either, all_put}
 use Rattle.duty_log.specs.declared.line.Event.{Event}
 use Rattle.duty_log.specs.declared.line.Event.TheVariants.{PutBack, Held, Done, Idle}
 use Rattle.rules.specs.declared.counts.Counts.{Counts}
-use Rattle.rules.specs.declared.hand.Hand.{Hand}
-use Rattle.rules.specs.declared.hand.Hand.TheVariants.{Empty, Holding}
-use Rattle.rules.specs.declared.hand.JobId.{JobId}
+use Rattle.rules.specs.declared.hand.Held.{Held as HeldJob}
+use Rattle.ready.specs.declared.job.JobId.{JobId}
 use Rattle.rules.specs.State.{State, pending}
 use Rattle.rules.specs.Release.{next_job}
-use Rattle.rules.specs.Tick.{Letter, runs, turn_of, one_if, begins, interrupts, worked, event_at, hand_after, waiting_after, previous_after, worked_state, checked}
+use Rattle.rules.specs.declared.letter.Letter.{Letter}
+use Rattle.rules.specs.Tick.{runs, turn_of, one_if, begins, interrupts, worked, event_at, hand_after, waiting_after, previous_after, worked_state, checked}
 use Rattle.rules.specs.Promises.{Few, FewInterruptions}
 use Rattle.rules.specs.Accounts.{Proper}
 use Rattle.rules.proofs.Kept.{Ruled, ruled, Kept}
@@ -51,11 +51,11 @@ record Waits (rows : List Row) (p : JobId) (js : List Job) : Type 0 where
   pub yield : AllByRecursion (Yields rows job) js
 
 -- the previous job, if there is one, is in the hand or waits; a job in the hand is the previous one
-abbrev Before : List Row → Option JobId → Hand → List Job → Type 0
-Before rows None Empty js = Unit {0}
-Before rows None (Holding j holds) js = ⊥
-Before rows (Some p) Empty js = Waits rows p js
-Before rows (Some p) (Holding j holds) js = (p.task ≡ j.task) × (p.number ≡ j.number) × AllByRecursion (Yields rows j) js
+abbrev Before : List Row → Option JobId → Option HeldJob → List Job → Type 0
+Before rows None None js = Unit {0}
+Before rows None (Some held) js = ⊥
+Before rows (Some p) None js = Waits rows p js
+Before rows (Some p) (Some held) js = (p.task ≡ held.job.task) × (p.number ≡ held.job.number) × AllByRecursion (Yields rows held.job) js
 
 -- where there is a previous job, a job has begun
 abbrev Counted : Option JobId → ℕ → Type 0
@@ -88,31 +88,31 @@ headed_itself j (k ∷ ks) = go (before k j) refl
     go false e = before_self j
 
 -- a job that has not begun may be put
-before_put : (rows : List Row) (p : Option JobId) (h : Hand) (j : Job) (js : List Job) → (Begun rows j → ⊥)
+before_put : (rows : List Row) (p : Option JobId) (h : Option HeldJob) (j : Job) (js : List Job) → (Begun rows j → ⊥)
     → Before rows p h js → Before rows p h (put_list j js)
-before_put rows None Empty j js new b = tt
-before_put rows None (Holding k holds) j js new b = b
-before_put rows (Some p) Empty j js new b = record {
+before_put rows None None j js new b = tt
+before_put rows None (Some held) j js new b = b
+before_put rows (Some p) None j js new b = record {
   job = b.job;
   task = b.task;
   number = b.number;
   headed = put_either j js (Headed b.job) (headed_placed b.job j js b.headed) b.headed;
   yield = all_put j js (Yields rows b.job) (λ x. absurd (new x)) b.yield;
 }
-before_put rows (Some p) (Holding k holds) j js new b = (b.0, b.1, all_put j js (Yields rows k) (λ x. absurd (new x)) b.2)
+before_put rows (Some p) (Some held) j js new b = (b.0, b.1, all_put j js (Yields rows held.job) (λ x. absurd (new x)) b.2)
 
 -- A turn.
 
 -- the waiting jobs that have begun are no more urgent than the one that runs
-turn_yields : (rows : List Row) (p : Option JobId) (h : Hand) (w : List Job) → Before rows p h w → Sorted before w
+turn_yields : (rows : List Row) (p : Option JobId) (h : Option HeldJob) (w : List Job) → Before rows p h w → Sorted before w
     → (j : Job) (holds : ℕ) (js : List Job) → turn_of h w ≡ runs j holds js → AllByRecursion (Yields rows j) js
-turn_yields rows None (Holding k m) w b sorted j holds js e = absurd b
-turn_yields rows (Some p) (Holding k m) w b sorted j holds js e =
-    let x : k ≡ j = cc in
+turn_yields rows None (Some held) w b sorted j holds js e = absurd b
+turn_yields rows (Some p) (Some held) w b sorted j holds js e =
+    let x : held.job ≡ j = cc in
     let y : w ≡ js = cc in
-    subst (λ (i : Job). AllByRecursion (Yields rows i) js) x (subst (AllByRecursion (Yields rows k)) y b.2)
-turn_yields rows p Empty [] b sorted j holds js e = let z : ◌≡◌ {A = ℕ} 0 1 = cc in absurd (omega arith)
-turn_yields rows p Empty (k ∷ ks) b sorted j holds js e =
+    subst (λ (i : Job). AllByRecursion (Yields rows i) js) x (subst (AllByRecursion (Yields rows held.job)) y b.2)
+turn_yields rows p None [] b sorted j holds js e = let z : ◌≡◌ {A = ℕ} 0 1 = cc in absurd (omega arith)
+turn_yields rows p None (k ∷ ks) b sorted j holds js e =
     let x : k ≡ j = cc in
     let y : ks ≡ js = cc in
     subst (λ (i : Job). AllByRecursion (Yields rows i) js) x
@@ -125,14 +125,14 @@ same_job p j e f o =
     (not_from_true _ (and_from (eqb p.task j.task) (eqb p.number j.number) (eq-eqb _ _ e) (eq-eqb _ _ f))) o
 
 -- whoever takes over from another job has not begun
-turn_new : (rows : List Row) (p : Option JobId) (h : Hand) (w : List Job) → Before rows p h w
+turn_new : (rows : List Row) (p : Option JobId) (h : Option HeldJob) (w : List Job) → Before rows p h w
     → (j : Job) (holds : ℕ) (js : List Job) → turn_of h w ≡ runs j holds js → interrupts p j ≡ true → Begun rows j → ⊥
 turn_new rows None h w b j holds js e o begun = both_ways false refl o
-turn_new rows (Some p) (Holding k m) w b j holds js e o begun =
-    let x : k ≡ j = cc in
+turn_new rows (Some p) (Some held) w b j holds js e o begun =
+    let x : held.job ≡ j = cc in
     same_job p j (b.0 ∙ ap (λ (i : Job). i.task) x) (b.1 ∙ ap (λ (i : Job). i.number) x) o
-turn_new rows (Some p) Empty [] b j holds js e o begun = let z : ◌≡◌ {A = ℕ} 0 1 = cc in absurd (omega arith)
-turn_new rows (Some p) Empty (k ∷ ks) b j holds js e o begun =
+turn_new rows (Some p) None [] b j holds js e o begun = let z : ◌≡◌ {A = ℕ} 0 1 = cc in absurd (omega arith)
+turn_new rows (Some p) None (k ∷ ks) b j holds js e o begun =
     let x : k ≡ j = cc in
     let u : before k b.job ≡ false = b.yield.0 (subst (Begun rows) (sym x) begun) in
     let task = tie_task b.job k b.headed u in

@@ -1,5 +1,5 @@
 -- What every call keeps of a bench, on every table.
-use Rattle.std.proofs.Common.{◌≡◌, ℕ, ◌+◌, ◌-◌, ◌*◌, ◌<◌, ◌≤◌, Bool, true, false, cond, leb, ◌⊎◌, List, [], ◌∷◌, length, None, count_by, ap, subst, ⊎_elim, mul-le-mul_right, arith}
+use Rattle.std.proofs.Common.{◌≡◌, ℕ, ◌+◌, ◌-◌, ◌*◌, ◌<◌, ◌≤◌, Bool, true, false, cond, leb, ◌⊎◌, List, [], ◌∷◌, length, None, Option, Some, count_by, ap, subst, ⊎_elim, mul-le-mul_right, arith}
 use Rattle.std.specs.List.{AllByRecursion}
 use Rattle.std.proofs.lemmas.List.{length-take}
 use Rattle.std.proofs.ByRecursion.{All-weaker}
@@ -15,13 +15,12 @@ use Rattle.ready.specs.Waiting.{is_job}
 use Rattle.ready.proofs.Counting.{count_by_none, some_passes}
 use Rattle.ready.proofs.Lawful.{that_job}
 use Rattle.rules.specs.declared.counts.TaskCounts.{TaskCounts}
-use Rattle.rules.specs.declared.hand.Hand.{Hand}
-use Rattle.rules.specs.declared.hand.Hand.TheVariants.{Empty, Holding}
+use Rattle.rules.specs.declared.hand.Held.{Held}
 use Rattle.rules.specs.State.{State, task_at, pending}
 use Rattle.rules.specs.Release.{next_release}
 use Rattle.rules.specs.Step.{last_clock}
 use Rattle.rules.specs.Deadlines.{releases_before}
-use Rattle.rules.specs.Accounts.{NothingLost, InOrder, Proper, AllProper, HoldsFew}
+use Rattle.rules.specs.Accounts.{NothingLost, InOrder, Proper, HoldsFew}
 use Rattle.rules.proofs.Rows.{Ranges, ranges_at}
 
 -- what follows from two facts of each element
@@ -49,9 +48,13 @@ pub seen_above : (n i t : ℕ) → n < i → seen n i t ≡ t
 seen_above n i t h = ap (λ (b : Bool). cond b (t + 1) t) (lt-leb i n h)
 
 -- a job in the hand is the first of its task that is not done
-abbrev pub NextInHand : List TaskCounts → Hand → Type 0
-NextInHand tasks Empty = Unit {0}
-NextInHand tasks (Holding j holds) = j.number ≡ (task_at j.task tasks).done + 1
+abbrev pub NextInHand : List TaskCounts → Option Held → Type 0
+NextInHand tasks None = Unit {0}
+NextInHand tasks (Some held) = held.job.number ≡ (task_at held.job.task tasks).done + 1
+
+-- each pending job is proper, as a proof by cases of the list has it
+abbrev pub EachProper : List Row → State → Type 0
+EachProper rows s = AllByRecursion (Proper rows s) (pending s)
 
 -- what every call keeps, and every release of the first n tasks; it holds of a stopped bench too
 pub record Kept (rows : List Row) (n : ℕ) (s : State) : Type 0 where
@@ -62,7 +65,7 @@ pub record Kept (rows : List Row) (n : ℕ) (s : State) : Type 0 where
   pub given : (i : ℕ) → 1 ≤ i → i ≤ length rows → (task_at i s.tasks).given ≤ s.clock
   pub lost : NothingLost rows s
   pub order : InOrder rows s
-  pub proper : AllProper rows s
+  pub proper : EachProper rows s
   pub sorted : Sorted before s.waiting
   pub next : NextInHand s.tasks s.hand
   pub holds : HoldsFew rows s
@@ -86,7 +89,7 @@ proper_in rows s s' j p undone out =
     record { low = p.low; high = p.high; undone = undone; out = out; key = p.key; some = p.some; most = p.most }
 
 -- a job that is done or not released is not pending
-pub not_pending : (rows : List Row) (s : State) → AllProper rows s → (i m : ℕ)
+pub not_pending : (rows : List Row) (s : State) → EachProper rows s → (i m : ℕ)
     → (m ≤ (task_at i s.tasks).done) ⊎ ((task_at i s.tasks).released < m) → count_by (is_job i m) (pending s) ≡ 0
 not_pending rows s all i m why =
     count_by_none (is_job i m) (pending s) (All-weaker (Proper rows s) (λ j. is_job i m j ≡ false) other (pending s) all)
@@ -110,7 +113,7 @@ pub record Found (rows : List Row) (P : Job → Type 0) (i m : ℕ) : Type 0 whe
   pub holds : P job
 
 -- a job that is released and not done is pending, with its key and all that holds of pending jobs
-pub found : (rows : List Row) (s : State) → AllProper rows s → InOrder rows s → (P : Job → Type 0) → AllByRecursion P (pending s)
+pub found : (rows : List Row) (s : State) → EachProper rows s → InOrder rows s → (P : Job → Type 0) → AllByRecursion P (pending s)
     → (i m : ℕ) → 1 ≤ i → i ≤ length rows → (task_at i s.tasks).done < m → m ≤ (task_at i s.tasks).released → Found rows P i m
 found rows s proper order P all i m low high undone out =
     let x = some_passes (is_job i m) (λ j. Proper rows s j × P j) (pending s) (omega (arith, order i m low high undone out))
@@ -127,7 +130,7 @@ found rows s proper order P all i m low high undone out =
     }
 
 -- where nothing is late, at most three jobs of a task are pending as its next one comes: a deadline is at most four periods
-pub few_pending : (rows : List Row) (s : State) → Ruled rows → AllProper rows s → InOrder rows s → Unmissed s → (i : ℕ) → 1 ≤ i → i ≤ length rows
+pub few_pending : (rows : List Row) (s : State) → Ruled rows → EachProper rows s → InOrder rows s → Unmissed s → (i : ℕ) → 1 ≤ i → i ≤ length rows
     → next_release (row_at i rows) (task_at i s.tasks).released ≡ s.clock
     → (task_at i s.tasks).released ≤ (task_at i s.tasks).done + 3
 few_pending rows s ok proper order fresh i low high now =

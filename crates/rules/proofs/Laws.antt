@@ -1,7 +1,8 @@
 -- The laws of every run, from what every call keeps.
-use Rattle.std.proofs.Common.{◌≡◌, ℕ, suc, ◌+◌, ◌-◌, ◌<◌, ◌≤◌, true, false, eqb, ◌⊎◌, List, [], ◌∷◌, length, Ok, count_by, sym, ap, ◌∙◌, subst, inl, inr, ⊎_elim, add-one, arith}
+use Rattle.std.proofs.Common.{◌≡◌, ℕ, suc, ◌+◌, ◌-◌, ◌<◌, ◌≤◌, true, false, eqb, ◌⊎◌, List, [], ◌∷◌, length, Some, None, Option, Ok, count_by, sym, ap, ◌∙◌, subst, inl, inr, ⊎_elim, add-one, arith}
 use Rattle.std.specs.List.{AllByRecursion}
 use Rattle.std.proofs.ByRecursion.{All-weaker}
+use Rattle.std.proofs.lemmas.List.Elements.{All-from_recursion}
 use Rattle.std.proofs.lemmas.Bool.{cases_lt, ne_eqb, and_left}
 use Rattle.sheet.specs.declared.row.Row.{Row}
 use Rattle.sheet.specs.Tables.{rows_of}
@@ -13,8 +14,7 @@ use Rattle.ready.specs.Waiting.{of_task, is_job, stray, put_answer}
 use Rattle.ready.proofs.Urgency.{before_self}
 use Rattle.ready.proofs.Counting.{count_by_none}
 use Rattle.ready.proofs.Lawful.{known_task}
-use Rattle.rules.specs.declared.hand.Hand.{Hand}
-use Rattle.rules.specs.declared.hand.Hand.TheVariants.{Empty, Holding}
+use Rattle.rules.specs.declared.hand.Held.{Held}
 use Rattle.rules.specs.State.{State, task_at, pending_of, pending}
 use Rattle.rules.specs.Release.{next_release, due, next_job, releases, released}
 use Rattle.rules.specs.Tick.{runs, turn_of}
@@ -123,18 +123,19 @@ module _ (rows : List Row) (ok : Ruled rows) (s : State) (sound : Sound rows s) 
           done = omega (arith, done_within i low in', released_within i low in');
           given = kept.given i low in';
         });
-    jobs = All-weaker (Proper rows s) FitsJob fits_job (pending s) kept.proper;
+    jobs = All-from_recursion FitsJob (pending s) (All-weaker (Proper rows s) FitsJob fits_job (pending s) kept.proper);
   }
 
   pub urgent : MostUrgentRuns rows s
   urgent j holds js empty turn =
-      subst (λ (h : Hand). AllByRecursion (λ k. before k j ≡ false) (pending_of h (released rows s).waiting)) (sym (released_hand rows s))
-      (first s.hand (released rows s).waiting empty (releases_sorted rows (length rows) s kept.sorted) turn)
+      All-from_recursion (λ k. before k j ≡ false) (pending (released rows s))
+      (subst (λ (h : Option Held). AllByRecursion (λ k. before k j ≡ false) (pending_of h (released rows s).waiting)) (sym (released_hand rows s))
+      (first s.hand (released rows s).waiting empty (releases_sorted rows (length rows) s kept.sorted) turn))
     where
-      first : (h : Hand) (w : List Job) → h ≡ Empty → Sorted before w → turn_of h w ≡ runs j holds js → AllByRecursion (λ k. before k j ≡ false) (pending_of h w)
-      first (Holding k m) w x sorted e = let z : ◌≡◌ {A = ℕ} 0 1 = cc in absurd (omega arith)
-      first Empty [] x sorted e = let z : ◌≡◌ {A = ℕ} 0 1 = cc in absurd (omega arith)
-      first Empty (k ∷ ks) x sorted e =
+      first : (h : Option Held) (w : List Job) → h ≡ None → Sorted before w → turn_of h w ≡ runs j holds js → AllByRecursion (λ k. before k j ≡ false) (pending_of h w)
+      first (Some held) w x sorted e = let z : ◌≡◌ {A = ℕ} 0 1 = cc in absurd (omega arith)
+      first None [] x sorted e = let z : ◌≡◌ {A = ℕ} 0 1 = cc in absurd (omega arith)
+      first None (k ∷ ks) x sorted e =
           let z : k ≡ j = cc in subst (λ (y : Job). AllByRecursion (λ i. before i y ≡ false) (k ∷ ks)) z (before_self k, sorted.0)
 
   pub puts_accepted : PutsAcceptedIfRunning rows s
@@ -142,7 +143,7 @@ module _ (rows : List Row) (ok : Ruled rows) (s : State) (sound : Sound rows s) 
     releases = λ n in'. subst (λ (i : ℕ). Accepts rows n s i) (sym (add-one n)) (λ now. at n in' (kept_releases rows ok s kept (sound.unmissed going) n (omega arith)) now);
     back = λ l j holds js turn e.
         put_back rows ok (released rows s) (sound_released rows ok s sound going).kept j holds js
-        (ap (λ (h : Hand). turn_of h (released rows s).waiting) (released_hand rows s) ∙ turn);
+        (ap (λ (h : Option Held). turn_of h (released rows s).waiting) (released_hand rows s) ∙ turn);
   }
     where
       at : (n : ℕ) → n < length rows → Between rows n (releases rows n s) → due rows (suc n) (releases rows n s) ≡ true
@@ -181,7 +182,7 @@ pub every_order : EveryRun InOrder
 every_order t calls = (sound_run t calls).kept.order
 
 pub every_proper : EveryRun AllProper
-every_proper t calls = (sound_run t calls).kept.proper
+every_proper t calls = All-from_recursion (Proper (rows_of t) (after_run (rows_of t) calls)) (pending (after_run (rows_of t) calls)) (sound_run t calls).kept.proper
 
 pub every_lawful : EveryRun WaitingLawful
 every_lawful t calls = lawful (rows_of t) (ruled t) (after_run (rows_of t) calls) (sound_run t calls)

@@ -21,5 +21,4 @@ pub mod Stops
 pub mod Begun
 pub mod Progress
 pub mod Lines
-pub mod Follow
 pub mod CallsMade

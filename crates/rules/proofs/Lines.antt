@@ -9,14 +9,16 @@ use Rattle.duty_log.specs.declared.line.Event.{Event}
 use Rattle.duty_log.specs.declared.line.Event.TheVariants.{PutBack, Held, Done, Idle}
 use Rattle.duty_log.specs.declared.line.Tick.{Tick}
 use Rattle.rules.specs.declared.counts.Counts.{Counts}
-use Rattle.rules.specs.declared.hand.JobId.{JobId}
-use Rattle.rules.specs.declared.refusal.StepRefusal.TheVariants.{LastClock}
+use Rattle.ready.specs.declared.job.JobId.{JobId}
+use Rattle.duty_log.specs.declared.refusal.StepRefusal.TheVariants.{LastClock}
 use Rattle.rules.specs.declared.call.Call.{Call}
 use Rattle.rules.specs.declared.call.Call.TheVariants.{Step, Counts as AskCounts, TaskCounts as AskTask, First}
 use Rattle.rules.specs.State.{State, opened}
 use Rattle.rules.specs.Release.{released}
-use Rattle.rules.specs.Tick.{Letter, Turn, nobody, runs, turn_of, one_if, interrupts, previous_after, event_at, after_turn, line_of, checked}
-use Rattle.rules.specs.Step.{Stepped, last_clock, letter_of, refused, step_by, step_running, step}
+use Rattle.rules.specs.declared.letter.Letter.{Letter}
+use Rattle.rules.specs.Tick.{Turn, nobody, runs, turn_of, one_if, interrupts, previous_after, event_at, after_turn, line_of, checked}
+use Rattle.rules.specs.Letters.{letter_of}
+use Rattle.rules.specs.Step.{Stepped, last_clock, refused, step_by, step_running, step}
 use Rattle.rules.specs.Run.{run_from}
 use Rattle.rules.specs.Lines.{logged, lines_from, is_idle, unfinished, takes_over, takeovers, LinesTell}
 use Rattle.rules.proofs.Releases.{releases_keep, released_clock}

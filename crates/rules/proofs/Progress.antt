@@ -4,11 +4,14 @@ use Rattle.std.proofs.lemmas.Bool.{eq-eqb, ne_eqb}
 use Rattle.sheet.specs.declared.row.Row.{Row}
 use Rattle.sheet.specs.Tables.{rows_of}
 use Rattle.ready.specs.declared.job.Job.{Job}
-use Rattle.rules.specs.declared.refusal.StepRefusal.TheVariants.{LastClock}
+use Rattle.duty_log.specs.declared.refusal.StepRefusal.TheVariants.{LastClock}
 use Rattle.rules.specs.State.{State}
 use Rattle.rules.specs.Release.{released}
-use Rattle.rules.specs.Tick.{Letter, run, hold, finish, Turn, nobody, runs, turn_of, after_turn, line_of, tick}
-use Rattle.rules.specs.Step.{Stepped, letter_of, refused, done, step_by, step_running, step}
+use Rattle.rules.specs.declared.letter.Letter.{Letter}
+use Rattle.rules.specs.declared.letter.Letter.TheVariants.{Run, Hold, Finish}
+use Rattle.rules.specs.Tick.{Turn, nobody, runs, turn_of, after_turn, line_of, tick}
+use Rattle.rules.specs.Letters.{letter_of}
+use Rattle.rules.specs.Step.{Stepped, refused, done, step_by, step_running, step}
 use Rattle.rules.specs.Run.{after_run}
 use Rattle.rules.specs.Promises.{EveryRun}
 use Rattle.rules.specs.Progress.{Taken, NoLetter, Steps}
@@ -42,13 +45,13 @@ module _ (rows : List Row) (s : State) where
       }
 
   no_letter : (c : ℕ) → NoLetter c → letter_of c ≡ None
-  no_letter c not = λ i. cond (ne_eqb c 114 not.not_run i) (Some run) (cond (ne_eqb c 104 not.not_hold i) (Some hold) (cond (ne_eqb c 102 not.not_finish i) (Some finish) None))
+  no_letter c not = λ i. cond (ne_eqb c 114 not.not_run i) (Some Run) (cond (ne_eqb c 104 not.not_hold i) (Some Hold) (cond (ne_eqb c 102 not.not_finish i) (Some Finish) None))
 
   pub steps : Steps rows s
   steps = record {
-    run = taken 114 run refl;
-    hold = taken 104 hold refl;
-    finish = taken 102 finish refl;
+    run = taken 114 Run refl;
+    hold = taken 104 Hold refl;
+    finish = taken 102 Finish refl;
     stopped = λ c miss e. ap (λ (m : Option Job). step_running rows c m s) e;
     last = λ c going e.
         ap (λ (m : Option Job). step_running rows c m s) going

@@ -10,13 +10,14 @@ use Rattle.ready.specs.declared.job.Job.{Job}
 use Rattle.ready.specs.Order.{before}
 use Rattle.rules.specs.declared.call.Call.{Call}
 use Rattle.rules.specs.declared.call.Call.TheVariants.{Step, Counts, TaskCounts, First}
-use Rattle.rules.specs.declared.hand.Hand.{Hand}
-use Rattle.rules.specs.declared.hand.Hand.TheVariants.{Empty, Holding}
-use Rattle.rules.specs.declared.refusal.StepRefusal.TheVariants.{LastClock}
+use Rattle.rules.specs.declared.hand.Held.{Held}
+use Rattle.duty_log.specs.declared.refusal.StepRefusal.TheVariants.{LastClock}
 use Rattle.rules.specs.State.{State, opened, pending_of}
 use Rattle.rules.specs.Release.{released}
-use Rattle.rules.specs.Tick.{Letter, turn_of, after_turn, most_urgent, late_at, missed, checked, tick}
-use Rattle.rules.specs.Step.{last_clock, letter_of, refused, step_by, step_running}
+use Rattle.rules.specs.declared.letter.Letter.{Letter}
+use Rattle.rules.specs.Tick.{turn_of, after_turn, most_urgent, late_at, missed, checked, tick}
+use Rattle.rules.specs.Letters.{letter_of}
+use Rattle.rules.specs.Step.{last_clock, refused, step_by, step_running}
 use Rattle.rules.specs.Run.{called, run_from, after_run}
 use Rattle.rules.specs.Demand.{Bounded, BoundedIsPunctual}
 use Rattle.rules.specs.Promises.{Punctual}
@@ -37,15 +38,15 @@ none_due rows t (j ∷ js) a z =
 not_late : (t : ℕ) (j : Job) → t < j.key → late_at t (Some j) ≡ None
 not_late t j h = ap (λ (b : Bool). cond b (Some j) None) (lt-leb j.key t h)
 
-no_miss : (t : ℕ) (hand : Hand) (waiting : List Job) → AllByRecursion (λ j. t < j.key) (pending_of hand waiting) → late_at t (most_urgent hand waiting) ≡ None
-no_miss t Empty [] a = refl
-no_miss t Empty (j ∷ js) a = not_late t j a.0
-no_miss t (Holding j holds) [] a = not_late t j a.0
-no_miss t (Holding j holds) (w ∷ js) a = go (before w j)
+no_miss : (t : ℕ) (hand : Option Held) (waiting : List Job) → AllByRecursion (λ j. t < j.key) (pending_of hand waiting) → late_at t (most_urgent hand waiting) ≡ None
+no_miss t None [] a = refl
+no_miss t None (j ∷ js) a = not_late t j a.0
+no_miss t (Some held) [] a = not_late t held.job a.0
+no_miss t (Some held) (w ∷ js) a = go (before w held.job)
   where
-    go : (b : Bool) → late_at t (Some (cond b w j)) ≡ None
+    go : (b : Bool) → late_at t (Some (cond b w held.job)) ≡ None
     go true = not_late t w a.1.0
-    go false = not_late t j a.0
+    go false = not_late t held.job a.0
 
 no_room_at_once : (x y t : ℕ) → (0 < x → x + y + t ≤ t) → x ≡ 0
 no_room_at_once zero y t f = refl

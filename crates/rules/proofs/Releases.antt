@@ -1,7 +1,8 @@
 -- The releases of a step keep what every call keeps, and none of their puts is refused where nothing is late.
-use Rattle.std.proofs.Common.{◌≡◌, ℕ, zero, suc, ◌+◌, ◌-◌, ◌<◌, ◌≤◌, Bool, true, false, cond, eqb, ◌⊎◌, List, length, Ok, count_by, sym, refl, ap, ◌∙◌, subst, inl, inr, ⊎_elim, arith}
+use Rattle.std.proofs.Common.{◌≡◌, ℕ, zero, suc, ◌+◌, ◌-◌, ◌<◌, ◌≤◌, Bool, true, false, cond, eqb, ◌⊎◌, List, length, Some, None, Option, Ok, sum_by, count_by, sym, refl, ap, ◌∙◌, subst, inl, inr, ⊎_elim, arith}
 use Rattle.std.specs.List.{AllByRecursion}
 use Rattle.std.proofs.ByRecursion.{All-weaker}
+use Rattle.std.proofs.lemmas.List.Sums.{sum_by-cons}
 use Rattle.std.proofs.lemmas.Bool.{cases_eq, cases_lt, cases_order, eqb-true, eqb-false, eq-eqb, ne_eqb, and_left, and_right, and_from}
 use Rattle.sheet.specs.declared.row.Row.{Row}
 use Rattle.verdict.specs.Test.{row_at}
@@ -11,10 +12,9 @@ use Rattle.ready.specs.Sorted.{Sorted}
 use Rattle.ready.specs.Waiting.{of_task, is_job, put_answer, put_list}
 use Rattle.ready.proofs.Counting.{count_by_cons}
 use Rattle.ready.proofs.Lawful.{known_task}
-use Rattle.ready.proofs.Puts.{answers_ok, count_by_put, all_put, sorted_put}
+use Rattle.ready.proofs.Puts.{answers_ok, sum_by_put, all_put, sorted_put}
 use Rattle.rules.specs.declared.counts.TaskCounts.{TaskCounts}
-use Rattle.rules.specs.declared.hand.Hand.{Hand}
-use Rattle.rules.specs.declared.hand.Hand.TheVariants.{Empty, Holding}
+use Rattle.rules.specs.declared.hand.Held.{Held}
 use Rattle.rules.specs.State.{State, task_at, pending_of, pending}
 use Rattle.rules.specs.Release.{next_release, due, next_job, release, releases, released}
 use Rattle.rules.specs.Deadlines.{releases_before}
@@ -24,24 +24,28 @@ use Rattle.rules.proofs.Times.{release_now, no_release_now}
 use Rattle.rules.proofs.Kept.{Ruled, seen, seen_below, seen_above, NextInHand, Kept, Unmissed, proper_in, not_pending, few_pending}
 
 -- what waits is pending
-pub waiting_le : (p : Job → Bool) (h : Hand) (js : List Job) → count_by p js ≤ count_by p (pending_of h js)
-waiting_le p Empty js = omega arith
-waiting_le p (Holding j holds) js = omega (arith, count_by_cons p j js)
+pub waiting_le : (p : Job → Bool) (h : Option Held) (js : List Job) → count_by p js ≤ count_by p (pending_of h js)
+waiting_le p None js = omega arith
+waiting_le p (Some held) js = omega (arith, count_by_cons p held.job js)
 
-pub all_waiting : (P : Job → Type 0) (h : Hand) (js : List Job) → AllByRecursion P (pending_of h js) → AllByRecursion P js
-all_waiting P Empty js a = a
-all_waiting P (Holding j holds) js a = a.1
+pub all_waiting : (P : Job → Type 0) (h : Option Held) (js : List Job) → AllByRecursion P (pending_of h js) → AllByRecursion P js
+all_waiting P None js a = a
+all_waiting P (Some held) js a = a.1
 
 -- the pending jobs after a put
-pub all_pending_put : (P : Job → Type 0) (h : Hand) (j : Job) (js : List Job) → P j → AllByRecursion P (pending_of h js) → AllByRecursion P (pending_of h (put_list j js))
-all_pending_put P Empty j js p a = all_put j js P p a
-all_pending_put P (Holding k holds) j js p a = (a.0, all_put j js P p a.1)
+pub all_pending_put : (P : Job → Type 0) (h : Option Held) (j : Job) (js : List Job) → P j → AllByRecursion P (pending_of h js) → AllByRecursion P (pending_of h (put_list j js))
+all_pending_put P None j js p a = all_put j js P p a
+all_pending_put P (Some held) j js p a = (a.0, all_put j js P p a.1)
 
-pub count_pending_put : (p : Job → Bool) (h : Hand) (j : Job) (js : List Job) → put_answer j js ≡ Ok tt
+pub sum_pending_put : (f : Job → ℕ) (h : Option Held) (j : Job) (js : List Job) → put_answer j js ≡ Ok tt
+    → sum_by f (pending_of h (put_list j js)) ≡ f j + sum_by f (pending_of h js)
+sum_pending_put f None j js e = sum_by_put j js f e
+sum_pending_put f (Some held) j js e =
+    omega (arith, sum_by_put j js f e, sum_by-cons f held.job (put_list j js), sum_by-cons f held.job js)
+
+pub count_pending_put : (p : Job → Bool) (h : Option Held) (j : Job) (js : List Job) → put_answer j js ≡ Ok tt
     → count_by p (pending_of h (put_list j js)) ≡ cond (p j) 1 0 + count_by p (pending_of h js)
-count_pending_put p Empty j js e = count_by_put j js p e
-count_pending_put p (Holding k holds) j js e =
-    omega (arith, count_by_put j js p e, count_by_cons p k (put_list j js), count_by_cons p k js)
+count_pending_put p h j js e = sum_pending_put (λ k. cond (p k) 1 0) h j js e
 
 -- The turn of task `suc n`.
 module _ (rows : List Row) (ok : Ruled rows) (n : ℕ) (in' : n < length rows) (s : State) (kept : Kept rows n s) where
@@ -227,11 +231,11 @@ module _ (rows : List Row) (ok : Ruled rows) (n : ℕ) (in' : n < length rows) (
             (times_then (task_at (suc n) after.tasks).released (omega (arith, raised_here.0, timed, one_more)))
         go (inr x) = x.1 ∙ kept.times l low high ∙ ap (releases_before (row_at l rows)) (seen_other l x.0)
 
-    next_after : (h : Hand) (js : List Job) → AllByRecursion (Proper rows s) (pending_of h js) → NextInHand s.tasks h → NextInHand after.tasks h
-    next_after Empty js a x = tt
-    next_after (Holding j holds) js a x = go (look j.task a.0.low)
+    next_after : (h : Option Held) (js : List Job) → AllByRecursion (Proper rows s) (pending_of h js) → NextInHand s.tasks h → NextInHand after.tasks h
+    next_after None js a x = tt
+    next_after (Some held) js a x = go (look held.job.task a.0.low)
       where
-        go : Raised j.task (suc n) 1 0 0 (task_at j.task s.tasks) (task_at j.task after.tasks) → j.number ≡ (task_at j.task after.tasks).done + 1
+        go : Raised held.job.task (suc n) 1 0 0 (task_at held.job.task s.tasks) (task_at held.job.task after.tasks) → held.job.number ≡ (task_at held.job.task after.tasks).done + 1
         go (inl y) = omega (arith, y.2)
         go (inr y) = omega (arith, y.2)
 

@@ -1,5 +1,5 @@
 -- The invariant of a run: up to every time there is room for the work that is due by then. Releases keep it.
-use Rattle.std.proofs.Common.{◌≡◌, ℕ, zero, suc, ◌+◌, ◌-◌, ◌*◌, ◌<◌, ◌≤◌, max, Bool, true, false, cond, List, length, sym, refl, ap, ◌∙◌, subst, arith}
+use Rattle.std.proofs.Common.{◌≡◌, ℕ, zero, suc, ◌+◌, ◌-◌, ◌*◌, ◌<◌, ◌≤◌, max, Bool, true, false, cond, List, length, Some, None, Option, sym, refl, ap, ◌∙◌, subst, arith}
 use Rattle.std.specs.List.{AllByRecursion}
 use Rattle.std.proofs.lemmas.List.Sums.{sum_by-cons}
 use Rattle.std.proofs.lemmas.Bool.{eqb-true}
@@ -10,8 +10,7 @@ use Rattle.ready.specs.Order.{before}
 use Rattle.ready.specs.Sorted.{Sorted}
 use Rattle.ready.proofs.Puts.{all_put, sorted_put, sum_by_put_le}
 use Rattle.rules.specs.declared.counts.TaskCounts.{TaskCounts}
-use Rattle.rules.specs.declared.hand.Hand.{Hand}
-use Rattle.rules.specs.declared.hand.Hand.TheVariants.{Empty, Holding}
+use Rattle.rules.specs.declared.hand.Held.{Held}
 use Rattle.rules.specs.State.{State, task_at, pending_of}
 use Rattle.rules.specs.Release.{next_release, due, next_job, with_release, release, releases, released}
 use Rattle.rules.specs.Accounts.{Holds}
@@ -27,11 +26,11 @@ abbrev pub Live : List Row → ℕ → Job → Type 0
 Live rows t j = (1 ≤ j.left) × (j.key ≤ t + (row_at j.task rows).deadline)
 
 -- the work that is due by d and pends or may still be released from `from` on
-abbrev pub all_work : List Row → (d from : ℕ) → List TaskCounts → List Job → Hand → ℕ
+abbrev pub all_work : List Row → (d from : ℕ) → List TaskCounts → List Job → Option Held → ℕ
 all_work rows d from tasks waiting hand = work_by d (pending_of hand waiting) + ahead_by rows (earliest rows tasks) d from (length rows)
 
 -- at clock t, with releases still to come from `from` on: every time below m by which any work is due has room for all of it and for a hold
-pub record Room (rows : List Row) (m t from : ℕ) (tasks : List TaskCounts) (waiting : List Job) (hand : Hand) : Type 0 where
+pub record Room (rows : List Row) (m t from : ℕ) (tasks : List TaskCounts) (waiting : List Job) (hand : Option Held) : Type 0 where
   pub counted : length tasks ≡ length rows
   pub live : AllByRecursion (Live rows t) (pending_of hand waiting)
   pub held : Holds rows hand
@@ -136,13 +135,13 @@ through rows s (suc n) fine h counted live sorted = go (due rows (suc n) (releas
     go false now t = without rows s n (releases rows n s) fine t
 
 -- the hand beside the waiting list
-with_waiting : (P : Job → Type 0) (hand : Hand) (js ks : List Job) → AllByRecursion P (pending_of hand js) → AllByRecursion P ks → AllByRecursion P (pending_of hand ks)
-with_waiting P Empty js ks a b = b
-with_waiting P (Holding j holds) js ks a b = (a.0, b)
+with_waiting : (P : Job → Type 0) (hand : Option Held) (js ks : List Job) → AllByRecursion P (pending_of hand js) → AllByRecursion P ks → AllByRecursion P (pending_of hand ks)
+with_waiting P None js ks a b = b
+with_waiting P (Some held) js ks a b = (a.0, b)
 
-hand_work : (d : ℕ) (hand : Hand) (js ks : List Job) → work_by d (pending_of hand ks) + work_by d js ≡ work_by d (pending_of hand js) + work_by d ks
-hand_work d Empty js ks = omega arith
-hand_work d (Holding j holds) js ks = omega (arith, sum_by-cons (left_by d) j js, sum_by-cons (left_by d) j ks)
+hand_work : (d : ℕ) (hand : Option Held) (js ks : List Job) → work_by d (pending_of hand ks) + work_by d js ≡ work_by d (pending_of hand js) + work_by d ks
+hand_work d None js ks = omega arith
+hand_work d (Some held) js ks = omega (arith, sum_by-cons (left_by d) held.job js, sum_by-cons (left_by d) held.job ks)
 
 -- with the releases of this tick in, the others come from the next tick on
 pub after_releases : (rows : List Row) (m : ℕ) (s : State) → ((i : ℕ) → Ranges (row_at i rows))
@@ -155,7 +154,7 @@ after_releases rows m s fine h =
     moved_on r t =
         let k : Room rows m r.clock r.clock s.tasks s.waiting r.hand
         = subst (λ (c : ℕ). Room rows m c c s.tasks s.waiting r.hand) (sym t.clock)
-        (subst (λ (x : Hand). Room rows m s.clock s.clock s.tasks s.waiting x) (sym t.hand) h) in
+        (subst (λ (x : Option Held). Room rows m s.clock s.clock s.tasks s.waiting x) (sym t.hand) h) in
         record {
           counted = t.counted;
           live = with_waiting (Live rows r.clock) r.hand s.waiting r.waiting k.live t.live;

@@ -55,12 +55,8 @@ module _ (before : ℕ) (r : Row) (lawful : lawful_row before r ≡ true) where
   execution_kept : (bad_execution r ≡ false) × (intact from_hold ≡ true)
   execution_kept = kept_first (bad_execution r) Execution from_hold phase_kept.1
 
-  above_zero : (n : ℕ) → eqb n 0 ≡ false → 1 ≤ n
-  above_zero zero h = absurd (eqb-false 0 0 h refl)
-  above_zero (suc n) h = omega arith
-
   code_low : 1 ≤ r.code
-  code_low = above_zero r.code (or_parts (eqb r.code 0) (ltb 240 r.code) code_kept.0).0
+  code_low = omega (arith, eqb-false r.code 0 (or_parts (eqb r.code 0) (ltb 240 r.code) code_kept.0).0)
 
   code_high : r.code ≤ 240
   code_high = ltb-false 240 r.code (or_parts (eqb r.code 0) (ltb 240 r.code) code_kept.0).1
@@ -83,9 +79,9 @@ module _ (before : ℕ) (r : Row) (lawful : lawful_row before r ≡ true) where
     some_period = subst (λ (p : ℕ). 0 < p) named (positive r.code code_low code_high);
     tiles = subst (λ (p : ℕ). p * (cycle / p) ≡ cycle) named (tiles r.code code_low code_high);
     period_within = subst (λ (p : ℕ). p ≤ cycle) named (within_cycle r.code code_low code_high);
-    some_deadline = above_zero r.deadline deadline_parts.0;
+    some_deadline = omega (arith, eqb-false r.deadline 0 deadline_parts.0);
     deadline_within = ltb-false (4 * r.period) r.deadline deadline_parts.1.0;
-    some_execution = above_zero r.execution execution_parts.0;
+    some_execution = omega (arith, eqb-false r.execution 0 execution_parts.0);
     execution_period = ltb-false r.period r.execution execution_parts.1.0;
   }
 

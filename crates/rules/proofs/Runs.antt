@@ -7,13 +7,15 @@ use Rattle.sheet.specs.Tables.{rows_of}
 use Rattle.verdict.specs.Test.{row_at}
 use Rattle.ready.specs.declared.job.Job.{Job}
 use Rattle.rules.specs.declared.counts.TaskCounts.{TaskCounts}
-use Rattle.rules.specs.declared.refusal.StepRefusal.TheVariants.{LastClock}
+use Rattle.duty_log.specs.declared.refusal.StepRefusal.TheVariants.{LastClock}
 use Rattle.rules.specs.declared.call.Call.{Call}
 use Rattle.rules.specs.declared.call.Call.TheVariants.{Step, Counts, TaskCounts as AskTask, First}
 use Rattle.rules.specs.State.{State, no_counts, task_at, opened}
 use Rattle.rules.specs.Release.{released}
-use Rattle.rules.specs.Tick.{Letter, turn_of, after_turn}
-use Rattle.rules.specs.Step.{last_clock, letter_of, refused, step_by, step_running, step}
+use Rattle.rules.specs.declared.letter.Letter.{Letter}
+use Rattle.rules.specs.Tick.{turn_of, after_turn}
+use Rattle.rules.specs.Letters.{letter_of}
+use Rattle.rules.specs.Step.{last_clock, refused, step_by, step_running, step}
 use Rattle.rules.specs.Run.{called, run_from, after_run}
 use Rattle.rules.specs.Deadlines.{releases_before}
 use Rattle.rules.proofs.Tasks.{opened_at, opened_length}

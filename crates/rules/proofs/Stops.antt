@@ -1,7 +1,8 @@
 -- A bench is stopped by a late job, and by nothing else.
-use Rattle.std.proofs.Common.{◌≡◌, ℕ, ◌-◌, ◌<◌, ◌≤◌, Bool, true, false, cond, leb, ◌⊎◌, List, [], ◌∷◌, Some, None, Option, sym, refl, ◌∙◌, subst, inl, inr, arith}
-use Rattle.std.specs.List.{ContainsAt, AllByRecursion}
-use Rattle.std.proofs.ByRecursion.{all-has, All-weaker}
+use Rattle.std.proofs.Common.{◌≡◌, ℕ, ◌-◌, ◌<◌, ◌≤◌, Bool, true, false, cond, leb, ◌⊎◌, List, [], ◌∷◌, Some, None, Option, Contains, sym, refl, ◌∙◌, subst, inl, inr, arith}
+use Rattle.std.specs.List.{AllByRecursion}
+use Rattle.std.proofs.ByRecursion.{All-weaker}
+use Rattle.std.proofs.lemmas.List.Elements.{All-from_recursion, All-contains}
 use Rattle.std.proofs.lemmas.Bool.{leb-true}
 use Rattle.sheet.specs.declared.row.Row.{Row}
 use Rattle.sheet.specs.Tables.{rows_of}
@@ -10,8 +11,7 @@ use Rattle.ready.specs.declared.job.Job.{Job}
 use Rattle.ready.specs.Order.{before}
 use Rattle.ready.specs.Sorted.{Sorted}
 use Rattle.ready.proofs.Urgency.{before_one_way, not_before_chain, before_self}
-use Rattle.rules.specs.declared.hand.Hand.{Hand}
-use Rattle.rules.specs.declared.hand.Hand.TheVariants.{Empty, Holding}
+use Rattle.rules.specs.declared.hand.Held.{Held}
 use Rattle.rules.specs.State.{State, pending_of, pending}
 use Rattle.rules.specs.Tick.{most_urgent, late_at, missed}
 use Rattle.rules.specs.Run.{after_run}
@@ -33,26 +33,26 @@ late_key t k j = go (leb k.key t) refl
     go false e h = let z : ◌≡◌ {A = ℕ} 0 1 = cc in absurd (omega arith)
 
 abbrev LateIn : ℕ → List Job → Job → Type 0
-LateIn t js j = ContainsAt js j × ((j.key ≤ t) × AllByRecursion (λ k. before k j ≡ false) js)
+LateIn t js j = Contains js j × ((j.key ≤ t) × AllByRecursion (λ k. before k j ≡ false) js)
 
 -- the most urgent job among hand and list, where the list is in order
-late_in : (t : ℕ) (h : Hand) (js : List Job) (j : Job) → Sorted before js → late_at t (most_urgent h js) ≡ Some j → LateIn t (pending_of h js) j
-late_in t Empty [] j s e = let z : ◌≡◌ {A = ℕ} 0 1 = cc in absurd (omega arith)
-late_in t Empty (k ∷ ks) j s e =
+late_in : (t : ℕ) (h : Option Held) (js : List Job) (j : Job) → Sorted before js → late_at t (most_urgent h js) ≡ Some j → LateIn t (pending_of h js) j
+late_in t None [] j s e = let z : ◌≡◌ {A = ℕ} 0 1 = cc in absurd (omega arith)
+late_in t None (k ∷ ks) j s e =
     let m = late_key t k j e in
-    subst (LateIn t (k ∷ ks)) m.0 ((0, omega arith, λ d. refl), (m.1, (before_self k, s.0)))
-late_in t (Holding i holds) [] j s e =
-    let m = late_key t i j e in
-    subst (LateIn t (i ∷ [])) m.0 ((0, omega arith, λ d. refl), (m.1, (before_self i, tt)))
-late_in t (Holding i holds) (k ∷ ks) j s e = go (before k i) refl e
+    subst (LateIn t (k ∷ ks)) m.0 ((0, omega arith, refl), (m.1, (before_self k, s.0)))
+late_in t (Some held) [] j s e =
+    let m = late_key t held.job j e in
+    subst (LateIn t (held.job ∷ [])) m.0 ((0, omega arith, refl), (m.1, (before_self held.job, tt)))
+late_in t (Some held) (k ∷ ks) j s e = go (before k held.job) refl e
   where
-    go : (b : Bool) → before k i ≡ b → late_at t (Some (cond b k i)) ≡ Some j → LateIn t (i ∷ k ∷ ks) j
+    go : (b : Bool) → before k held.job ≡ b → late_at t (Some (cond b k held.job)) ≡ Some j → LateIn t (held.job ∷ k ∷ ks) j
     go true x h =
         let m = late_key t k j h in
-        subst (LateIn t (i ∷ k ∷ ks)) m.0 ((1, omega arith, λ d. refl), (m.1, (before_one_way k i x, (before_self k, s.0))))
+        subst (LateIn t (held.job ∷ k ∷ ks)) m.0 ((1, omega arith, refl), (m.1, (before_one_way k held.job x, (before_self k, s.0))))
     go false x h =
-        let m = late_key t i j h in
-        subst (LateIn t (i ∷ k ∷ ks)) m.0 ((0, omega arith, λ d. refl), (m.1, (before_self i, (x, All-weaker (λ y. before y k ≡ false) (λ y. before y i ≡ false) (λ y z. not_before_chain y k i z x) ks s.0))))
+        let m = late_key t held.job j h in
+        subst (LateIn t (held.job ∷ k ∷ ks)) m.0 ((0, omega arith, refl), (m.1, (before_self held.job, (x, All-weaker (λ y. before y k ≡ false) (λ y. before y held.job ≡ false) (λ y z. not_before_chain y k held.job z x) ks s.0))))
 
 -- the miss is what the last check found
 abbrev Found : State → Type 0
@@ -67,7 +67,7 @@ none_late s sorted unmissed (inr e) = go (missed s) refl
     go None x = e ∙ x
     go (Some j) x =
         let f = late_in s.clock s.hand s.waiting j sorted x in
-        absurd (omega (arith, f.1.0, all-has (λ (k : Job). s.clock < k.key) (pending s) j unmissed f.0))
+        absurd (omega (arith, f.1.0, All-contains (λ (k : Job). s.clock < k.key) (pending s) j (All-from_recursion (λ (k : Job). s.clock < k.key) (pending s) unmissed) f.0))
 
 found_kept : (rows : List Row) → Keeps rows Any Found
 found_kept rows = record {
@@ -85,12 +85,12 @@ every_miss t calls j e = go (kept_by_every_run (rows_of t) (ruled t) Found (foun
     go (inr is) =
         let s = after_run (rows_of t) calls in
         let f = late_in s.clock s.hand s.waiting j (sound_run t calls).kept.sorted (sym is ∙ e) in
-        record { pends = f.0; due = f.1.0; first = f.1.1 }
+        record { pends = f.0; due = f.1.0; first = All-from_recursion (λ k. before k j ≡ false) (pending s) f.1.1 }
 
 -- a late job's deadline is among those that have come, and it is not done
 stopped_is_late : (rows : List Row) → Ruled rows → (s : State) → Sound rows s → (j : Job) → Late s j → InTime rows s → ⊥
 stopped_is_late rows ok s sound j late met =
-    let p : Proper rows s j = all-has (Proper rows s) (pending s) j sound.kept.proper late.pends in
+    let p : Proper rows s j = All-contains (Proper rows s) (pending s) j (All-from_recursion (Proper rows s) (pending s) sound.kept.proper) late.pends in
     let r : Ranges (row_at j.task rows) = ok.ranges j.task in
     let d = counted_due (row_at j.task rows) (j.number - 1) s.clock r.some_period (omega (arith, p.key, late.due)) in
     omega (arith, p.undone, met j.task p.low p.high)

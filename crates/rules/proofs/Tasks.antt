@@ -1,10 +1,10 @@
 -- The counts of the tasks, by task, through a release and a tick.
-use Rattle.std.proofs.Common.{◌≡◌, ℕ, zero, suc, ◌+◌, ◌-◌, ◌≤◌, ◌⊎◌, List, length, get_or, set, replicate, sum_by, sym, refl, ap, ◌∙◌, subst, inl, inr, arith}
-use Rattle.std.specs.List.{AllByRecursion}
+use Rattle.std.proofs.Common.{◌≡◌, ℕ, zero, suc, ◌+◌, ◌-◌, ◌*◌, ◌≤◌, ◌⊎◌, List, length, get_or, set, replicate, All, sum_by, sym, refl, ap, ◌∙◌, subst, inl, inr, arith}
 use Rattle.std.proofs.lemmas.List.{length-set, length-replicate, get_or-set_same, get_or-set_other}
-use Rattle.std.proofs.lemmas.List.Sums.{sum_by-set, sum_by-cons}
+use Rattle.std.proofs.lemmas.List.Folds.{sum_by-replicate}
+use Rattle.std.proofs.lemmas.List.Sums.{sum_by-set}
+use Rattle.std.proofs.lemmas.List.Elements.{All-from_get_or}
 use Rattle.std.proofs.lemmas.Bool.{cases_eq}
-use Rattle.std.proofs.ByRecursion.{All-from_get_or}
 use Rattle.duty_log.specs.declared.line.Event.{Event}
 use Rattle.rules.specs.declared.counts.TaskCounts.{TaskCounts}
 use Rattle.rules.specs.State.{no_counts, task_at}
@@ -31,6 +31,22 @@ Raised l i a b c k m =
     ((l ≡ i) × (m.released ≡ k.released + a) × (m.done ≡ k.done + b) × (m.given ≡ k.given + c))
     ⊎ ((l ≡ i → ⊥) × (m.released ≡ k.released) × (m.done ≡ k.done) × (m.given ≡ k.given))
 
+raised_with_task : (i : ℕ) (k : TaskCounts) (tasks : List TaskCounts) (a b c : ℕ)
+    → k.released ≡ (task_at i tasks).released + a → k.done ≡ (task_at i tasks).done + b → k.given ≡ (task_at i tasks).given + c
+    → (l : ℕ) → 1 ≤ i → i ≤ length tasks → 1 ≤ l → Raised l i a b c (task_at l tasks) (task_at l (with_task i k tasks))
+raised_with_task i k tasks a b c released done given l low high low' = go (cases_eq l i)
+  where
+    same : task_at i (with_task i k tasks) ≡ k
+    same = same_with_task i k tasks low high
+
+    go : (l ≡ i) ⊎ (l ≡ i → ⊥) → Raised l i a b c (task_at l tasks) (task_at l (with_task i k tasks))
+    go (inl e) =
+        subst (λ (n : ℕ). Raised n i a b c (task_at n tasks) (task_at n (with_task i k tasks))) (sym e)
+        (inl (refl, ap (λ (m : TaskCounts). m.released) same ∙ released, ap (λ (m : TaskCounts). m.done) same ∙ done, ap (λ (m : TaskCounts). m.given) same ∙ given))
+    go (inr ne) =
+        let z = other_with_task i k tasks l low low' ne in
+        inr (ne, ap (λ (m : TaskCounts). m.released) z, ap (λ (m : TaskCounts). m.done) z, ap (λ (m : TaskCounts). m.given) z)
+
 -- A release.
 
 module _ (i : ℕ) (tasks : List TaskCounts) where
@@ -49,17 +65,7 @@ module _ (i : ℕ) (tasks : List TaskCounts) where
   given_release low high = omega (arith, sum_with_task i (record { released = (task_at i tasks).released + 1; done = (task_at i tasks).done; given = (task_at i tasks).given }) tasks (λ k. k.given) low high)
 
   pub raised_release : (l : ℕ) → 1 ≤ i → i ≤ length tasks → 1 ≤ l → Raised l i 1 0 0 (task_at l tasks) (task_at l (with_release i tasks))
-  raised_release l low high low' = go (cases_eq l i)
-    where
-      go : (l ≡ i) ⊎ (l ≡ i → ⊥) → Raised l i 1 0 0 (task_at l tasks) (task_at l (with_release i tasks))
-      go (inl e) =
-          inl (subst (λ (n : ℕ). (n ≡ i) × ((task_at n (with_release i tasks)).released ≡ (task_at n tasks).released + 1)
-          × ((task_at n (with_release i tasks)).done ≡ (task_at n tasks).done + 0) × ((task_at n (with_release i tasks)).given ≡ (task_at n tasks).given + 0)) (sym e)
-          (let z = same_release low high in
-          (refl, ap (λ (k : TaskCounts). k.released) z, ap (λ (k : TaskCounts). k.done) z ∙ omega arith, ap (λ (k : TaskCounts). k.given) z ∙ omega arith)))
-      go (inr ne) =
-          let z = other_release l low low' ne in
-          inr (ne, ap (λ (k : TaskCounts). k.released) z, ap (λ (k : TaskCounts). k.done) z, ap (λ (k : TaskCounts). k.given) z)
+  raised_release l low high low' = raised_with_task i _ tasks 1 0 0 refl (omega arith) (omega arith) l low high low'
 
 -- A tick.
 
@@ -67,29 +73,11 @@ module _ (e : Event) (i : ℕ) (tasks : List TaskCounts) where
   pub length_tick : length (with_tick e i tasks) ≡ length tasks
   length_tick = length-set tasks (i - 1) _
 
-  pub same_tick : 1 ≤ i → i ≤ length tasks
-      → task_at i (with_tick e i tasks)
-      ≡ record { released = (task_at i tasks).released; done = (task_at i tasks).done + one_done e; given = (task_at i tasks).given + 1 }
-  same_tick low high = same_with_task i _ tasks low high
-
-  pub other_tick : (l : ℕ) → 1 ≤ i → 1 ≤ l → (l ≡ i → ⊥) → task_at l (with_tick e i tasks) ≡ task_at l tasks
-  other_tick l low low' ne = other_with_task i _ tasks l low low' ne
-
   pub given_tick : 1 ≤ i → i ≤ length tasks → sum_by (λ k. k.given) (with_tick e i tasks) ≡ sum_by (λ k. k.given) tasks + 1
   given_tick low high = omega (arith, sum_with_task i (record { released = (task_at i tasks).released; done = (task_at i tasks).done + one_done e; given = (task_at i tasks).given + 1 }) tasks (λ k. k.given) low high)
 
   pub raised_tick : (l : ℕ) → 1 ≤ i → i ≤ length tasks → 1 ≤ l → Raised l i 0 (one_done e) 1 (task_at l tasks) (task_at l (with_tick e i tasks))
-  raised_tick l low high low' = go (cases_eq l i)
-    where
-      go : (l ≡ i) ⊎ (l ≡ i → ⊥) → Raised l i 0 (one_done e) 1 (task_at l tasks) (task_at l (with_tick e i tasks))
-      go (inl x) =
-          inl (subst (λ (n : ℕ). (n ≡ i) × ((task_at n (with_tick e i tasks)).released ≡ (task_at n tasks).released + 0)
-          × ((task_at n (with_tick e i tasks)).done ≡ (task_at n tasks).done + one_done e) × ((task_at n (with_tick e i tasks)).given ≡ (task_at n tasks).given + 1)) (sym x)
-          (let z = same_tick low high in
-          (refl, ap (λ (k : TaskCounts). k.released) z ∙ omega arith, ap (λ (k : TaskCounts). k.done) z, ap (λ (k : TaskCounts). k.given) z)))
-      go (inr ne) =
-          let z = other_tick l low low' ne in
-          inr (ne, ap (λ (k : TaskCounts). k.released) z, ap (λ (k : TaskCounts). k.done) z, ap (λ (k : TaskCounts). k.given) z)
+  raised_tick l low high low' = raised_with_task i _ tasks 0 (one_done e) 1 (omega arith) refl refl l low high low'
 
 -- The opening.
 
@@ -105,11 +93,10 @@ pub opened_length : (n : ℕ) → length (replicate n no_counts) ≡ n
 opened_length n = length-replicate n no_counts
 
 pub opened_sum : (f : TaskCounts → ℕ) → f no_counts ≡ 0 → (n : ℕ) → sum_by f (replicate n no_counts) ≡ 0
-opened_sum f z zero = refl
-opened_sum f z (suc n) = sum_by-cons f no_counts (replicate n no_counts) ∙ omega (arith, opened_sum f z n)
+opened_sum f z n = sum_by-replicate f n no_counts ∙ ap (λ (m : ℕ). n * m) z ∙ omega arith
 
 -- what holds of each task's counts, by task and by list
-pub all_tasks : (P : TaskCounts → Type 0) (tasks : List TaskCounts) → ((i : ℕ) → 1 ≤ i → i ≤ length tasks → P (task_at i tasks)) → AllByRecursion P tasks
+pub all_tasks : (P : TaskCounts → Type 0) (tasks : List TaskCounts) → ((i : ℕ) → 1 ≤ i → i ≤ length tasks → P (task_at i tasks)) → All P tasks
 all_tasks P tasks f =
     All-from_get_or P tasks no_counts
     (λ k h. let e : k + 1 - 1 ≡ k = omega arith in subst (λ (n : ℕ). P (get_or tasks n no_counts)) e (f (k + 1) (omega arith) (omega arith)))

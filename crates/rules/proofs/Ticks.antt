@@ -1,5 +1,5 @@
 -- A tick keeps what every call keeps, puts back without a refusal, and stops the bench where a job is late.
-use Rattle.std.proofs.Common.{◌≡◌, ℕ, zero, suc, ◌+◌, ◌-◌, ◌<◌, ◌≤◌, Bool, true, false, cond, eqb, ltb, leb, ◌⊎◌, List, [], ◌∷◌, length, Some, None, Ok, count_by, sym, refl, ap, ◌∙◌, subst, inl, inr, ⊎_elim, arith}
+use Rattle.std.proofs.Common.{◌≡◌, ℕ, ◌+◌, ◌-◌, ◌<◌, ◌≤◌, Bool, true, false, cond, eqb, ltb, leb, ◌⊎◌, List, [], ◌∷◌, length, Some, None, Option, Ok, count_by, sym, refl, ap, ◌∙◌, subst, inl, inr, ⊎_elim, arith}
 use Rattle.std.specs.List.{AllByRecursion}
 use Rattle.std.proofs.ByRecursion.{All-weaker}
 use Rattle.std.proofs.lemmas.Bool.{cases_lt, cases_Bool, eqb-false, ltb-true, leb-false, eq-eqb, ne_eqb, and_from, both_ways}
@@ -16,38 +16,39 @@ use Rattle.ready.proofs.Puts.{answers_ok, count_by_put, all_put, sorted_put}
 use Rattle.duty_log.specs.declared.line.Event.{Event}
 use Rattle.duty_log.specs.declared.line.Event.TheVariants.{PutBack, Held, Done, Idle}
 use Rattle.rules.specs.declared.counts.TaskCounts.{TaskCounts}
-use Rattle.rules.specs.declared.hand.Hand.{Hand}
-use Rattle.rules.specs.declared.hand.Hand.TheVariants.{Empty, Holding}
+use Rattle.rules.specs.declared.hand.Held.{Held as HeldJob}
 use Rattle.rules.specs.State.{State, task_at, pending_of, pending}
 use Rattle.rules.specs.Release.{next_release}
-use Rattle.rules.specs.Tick.{Letter, run, hold, finish, Turn, nobody, runs, turn_of, one_if, begins, interrupts, worked, event_of, event_at, hand_after, waiting_after, one_done, worked_state, idle_state, after_turn, urgent_of, most_urgent, late_at, checked}
+use Rattle.rules.specs.declared.letter.Letter.{Letter}
+use Rattle.rules.specs.declared.letter.Letter.TheVariants.{Run, Hold, Finish}
+use Rattle.rules.specs.Tick.{Turn, nobody, runs, turn_of, one_if, begins, interrupts, worked, event_of, event_at, hand_after, waiting_after, one_done, worked_state, idle_state, after_turn, urgent_of, most_urgent, late_at, checked}
 use Rattle.rules.specs.Step.{last_clock}
 use Rattle.rules.specs.Deadlines.{releases_before}
-use Rattle.rules.specs.Accounts.{NothingLost, InOrder, Proper, AllProper, Holds}
+use Rattle.rules.specs.Accounts.{NothingLost, InOrder, Proper, Holds}
 use Rattle.rules.proofs.Tasks.{Raised, length_tick, raised_tick}
 use Rattle.rules.proofs.Times.{period_later}
-use Rattle.rules.proofs.Kept.{all_both, Ruled, seen, seen_below, seen_above, NextInHand, Kept, Sound, proper_in, found}
+use Rattle.rules.proofs.Kept.{all_both, Ruled, seen, seen_below, seen_above, NextInHand, EachProper, Kept, Sound, proper_in, found}
 
 -- Who runs.
 
 -- the job that runs and those that wait besides are the pending ones
-pub turn_pending : (h : Hand) (w : List Job) (j : Job) (holds : ℕ) (js : List Job) → turn_of h w ≡ runs j holds js → pending_of h w ≡ j ∷ js
-turn_pending (Holding k m) w j holds js e = cc
-turn_pending Empty [] j holds js e = let z : ◌≡◌ {A = ℕ} 0 1 = cc in absurd (omega arith)
-turn_pending Empty (k ∷ ks) j holds js e = cc
+pub turn_pending : (h : Option HeldJob) (w : List Job) (j : Job) (holds : ℕ) (js : List Job) → turn_of h w ≡ runs j holds js → pending_of h w ≡ j ∷ js
+turn_pending (Some held) w j holds js e = cc
+turn_pending None [] j holds js e = let z : ◌≡◌ {A = ℕ} 0 1 = cc in absurd (omega arith)
+turn_pending None (k ∷ ks) j holds js e = cc
 
-pub nobody_pending : (h : Hand) (w : List Job) → turn_of h w ≡ nobody → pending_of h w ≡ []
-nobody_pending (Holding k m) w e = let z : ◌≡◌ {A = ℕ} 0 1 = cc in absurd (omega arith)
-nobody_pending Empty [] e = refl
-nobody_pending Empty (k ∷ ks) e = let z : ◌≡◌ {A = ℕ} 0 1 = cc in absurd (omega arith)
+pub nobody_pending : (h : Option HeldJob) (w : List Job) → turn_of h w ≡ nobody → pending_of h w ≡ []
+nobody_pending (Some held) w e = let z : ◌≡◌ {A = ℕ} 0 1 = cc in absurd (omega arith)
+nobody_pending None [] e = refl
+nobody_pending None (k ∷ ks) e = let z : ◌≡◌ {A = ℕ} 0 1 = cc in absurd (omega arith)
 
-pub turn_sorted : (h : Hand) (w : List Job) (j : Job) (holds : ℕ) (js : List Job) → turn_of h w ≡ runs j holds js → Sorted before w → Sorted before js
-turn_sorted (Holding k m) w j holds js e s = let z : w ≡ js = cc in subst (Sorted before) z s
-turn_sorted Empty [] j holds js e s = let z : ◌≡◌ {A = ℕ} 0 1 = cc in absurd (omega arith)
-turn_sorted Empty (k ∷ ks) j holds js e s = let z : ks ≡ js = cc in subst (Sorted before) z s.1
+pub turn_sorted : (h : Option HeldJob) (w : List Job) (j : Job) (holds : ℕ) (js : List Job) → turn_of h w ≡ runs j holds js → Sorted before w → Sorted before js
+turn_sorted (Some held) w j holds js e s = let z : w ≡ js = cc in subst (Sorted before) z s
+turn_sorted None [] j holds js e s = let z : ◌≡◌ {A = ℕ} 0 1 = cc in absurd (omega arith)
+turn_sorted None (k ∷ ks) j holds js e s = let z : ks ≡ js = cc in subst (Sorted before) z s.1
 
 -- a job of a sorted list before which none comes is the first of its task that is not done
-first_is_next : (rows : List Row) (ok : Ruled rows) (s : State) → AllProper rows s → InOrder rows s → (j : Job)
+first_is_next : (rows : List Row) (ok : Ruled rows) (s : State) → EachProper rows s → InOrder rows s → (j : Job)
     → Proper rows s j → AllByRecursion (λ k. before k j ≡ false) (pending s) → j.number ≡ (task_at j.task s.tasks).done + 1
 first_is_next rows ok s proper order j p least =
     ⊎_elim
@@ -63,13 +64,13 @@ first_is_next rows ok s proper order j p least =
     (λ ge. omega (arith, p.undone))
     (cases_lt ((task_at j.task s.tasks).done + 1) j.number)
 
-turn_next' : (rows : List Row) (ok : Ruled rows) (s : State) → AllProper rows s → InOrder rows s → (h : Hand) (w : List Job)
+turn_next' : (rows : List Row) (ok : Ruled rows) (s : State) → EachProper rows s → InOrder rows s → (h : Option HeldJob) (w : List Job)
     → pending s ≡ pending_of h w → Sorted before w → NextInHand s.tasks h
     → (j : Job) (holds : ℕ) (js : List Job) → turn_of h w ≡ runs j holds js → j.number ≡ (task_at j.task s.tasks).done + 1
-turn_next' rows ok s proper order (Holding k m) w x sorted next j holds js e =
-    let z : k ≡ j = cc in subst (λ (y : Job). y.number ≡ (task_at y.task s.tasks).done + 1) z next
-turn_next' rows ok s proper order Empty [] x sorted next j holds js e = let z : ◌≡◌ {A = ℕ} 0 1 = cc in absurd (omega arith)
-turn_next' rows ok s proper order Empty (k ∷ ks) x sorted next j holds js e =
+turn_next' rows ok s proper order (Some held) w x sorted next j holds js e =
+    let z : held.job ≡ j = cc in subst (λ (y : Job). y.number ≡ (task_at y.task s.tasks).done + 1) z next
+turn_next' rows ok s proper order None [] x sorted next j holds js e = let z : ◌≡◌ {A = ℕ} 0 1 = cc in absurd (omega arith)
+turn_next' rows ok s proper order None (k ∷ ks) x sorted next j holds js e =
     let z : k ≡ j = cc in
     subst (λ (y : Job). y.number ≡ (task_at y.task s.tasks).done + 1) z
     (first_is_next rows ok s proper order k (subst (AllByRecursion (Proper rows s)) x proper).0
@@ -90,26 +91,18 @@ Tells Held left holds most = (1 ≤ left) × (holds < most)
 Tells Idle left holds most = ⊥
 
 pub event_tells : (l : Letter) (left holds most : ℕ) → Tells (event_of l left holds most) left holds most
-event_tells finish left holds most = tt
-event_tells run left holds most = go (eqb left 0) refl
+event_tells Finish left holds most = tt
+event_tells Run left holds most = go (eqb left 0) refl
   where
     go : (b : Bool) → eqb left 0 ≡ b → Tells (cond b Done PutBack) left holds most
     go true e = tt
-    go false e = some left (eqb-false left 0 e)
-      where
-        some : (n : ℕ) → (n ≡ 0 → ⊥) → 1 ≤ n
-        some zero f = absurd (f refl)
-        some (suc n) f = omega arith
-event_tells hold left holds most = go (eqb left 0) (ltb holds most) refl refl
+    go false e = omega (arith, eqb-false left 0 e)
+event_tells Hold left holds most = go (eqb left 0) (ltb holds most) refl refl
   where
-    some : (n : ℕ) → (n ≡ 0 → ⊥) → 1 ≤ n
-    some zero f = absurd (f refl)
-    some (suc n) f = omega arith
-
     go : (b c : Bool) → eqb left 0 ≡ b → ltb holds most ≡ c → Tells (cond b Done (cond c Held PutBack)) left holds most
     go true c e f = tt
-    go false true e f = (some left (eqb-false left 0 e), ltb-true holds most f)
-    go false false e f = some left (eqb-false left 0 e)
+    go false true e f = (omega (arith, eqb-false left 0 e), ltb-true holds most f)
+    go false false e f = omega (arith, eqb-false left 0 e)
 
 pub one_if_le : (b : Bool) → one_if b ≤ 1
 one_if_le true = omega arith
@@ -125,7 +118,7 @@ one_done_le Idle = omega arith
 abbrev pub pending_after : Event → Job → ℕ → List Job → List Job
 pending_after e j holds js = pending_of (hand_after e j holds) (waiting_after e j js)
 
-cond_same : (b : Bool) → ◌≡◌ {A = ℕ} (cond b 0 0) 0
+pub cond_same : (b : Bool) → ◌≡◌ {A = ℕ} (cond b 0 0) 0
 cond_same true = refl
 cond_same false = refl
 
@@ -148,7 +141,7 @@ all_after_run P PutBack j left holds most js t p a = all_put j js P (p t refl) a
 all_after_run P Held j left holds most js t p a = (p t.0 refl, a)
 all_after_run P Idle j left holds most js t p a = absurd t
 
-sorted_after_run : (e : Event) (j : Job) (js : List Job) → Sorted before js → Sorted before (waiting_after e j js)
+pub sorted_after_run : (e : Event) (j : Job) (js : List Job) → Sorted before js → Sorted before (waiting_after e j js)
 sorted_after_run Done j js s = s
 sorted_after_run PutBack j js s = sorted_put j js s
 sorted_after_run Held j js s = s
@@ -161,7 +154,7 @@ next_after_run tasks PutBack j holds h = tt
 next_after_run tasks Held j holds h = h refl
 next_after_run tasks Idle j holds h = tt
 
-holds_after_run : (rows : List Row) (e : Event) (j : Job) (left holds : ℕ) → Tells e left holds (row_at j.task rows).hold
+pub holds_after_run : (rows : List Row) (e : Event) (j : Job) (left holds : ℕ) → Tells e left holds (row_at j.task rows).hold
     → Holds rows (hand_after e (worked j) holds)
 holds_after_run rows Done j left holds t = tt
 holds_after_run rows PutBack j left holds t = tt
@@ -394,15 +387,15 @@ sorted_unmissed : (t : ℕ) (j : Job) (js : List Job) → t < j.key → Sorted b
 sorted_unmissed t j js h s =
     (h, All-weaker (λ k. before k j ≡ false) (λ k. t < k.key) (λ k e. omega (arith, least_key j k e)) js s.0)
 
-unmissed_by : (t : ℕ) (h : Hand) (js : List Job) → Sorted before js → late_at t (most_urgent h js) ≡ None → AllByRecursion (λ k. t < k.key) (pending_of h js)
-unmissed_by t Empty [] s e = tt
-unmissed_by t Empty (j ∷ js) s e = sorted_unmissed t j js (not_late t j e) s
-unmissed_by t (Holding j holds) [] s e = (not_late t j e, tt)
-unmissed_by t (Holding j holds) (k ∷ ks) s e = go (before k j) refl (not_late t (urgent_of j (Some k)) e)
+unmissed_by : (t : ℕ) (h : Option HeldJob) (js : List Job) → Sorted before js → late_at t (most_urgent h js) ≡ None → AllByRecursion (λ k. t < k.key) (pending_of h js)
+unmissed_by t None [] s e = tt
+unmissed_by t None (j ∷ js) s e = sorted_unmissed t j js (not_late t j e) s
+unmissed_by t (Some held) [] s e = (not_late t held.job e, tt)
+unmissed_by t (Some held) (k ∷ ks) s e = go (before k held.job) refl (not_late t (urgent_of held.job (Some k)) e)
   where
-    go : (b : Bool) → before k j ≡ b → t < (cond b k j).key → AllByRecursion (λ y. t < y.key) (j ∷ k ∷ ks)
-    go true x h = (omega (arith, least_key k j (before_one_way k j x)), sorted_unmissed t k ks h s)
-    go false x h = (h, sorted_unmissed t k ks (omega (arith, least_key j k x)) s)
+    go : (b : Bool) → before k held.job ≡ b → t < (cond b k held.job).key → AllByRecursion (λ y. t < y.key) (held.job ∷ k ∷ ks)
+    go true x h = (omega (arith, least_key k held.job (before_one_way k held.job x)), sorted_unmissed t k ks h s)
+    go false x h = (h, sorted_unmissed t k ks (omega (arith, least_key held.job k x)) s)
 
 -- a bench that a check did not stop has no late job
 pub sound_checked : (rows : List Row) (s : State) → Kept rows 0 s → Sound rows (checked s)

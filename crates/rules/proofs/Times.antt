@@ -1,5 +1,5 @@
 -- When the jobs of a row are released and due: the closed forms, by their numbers.
-use Rattle.std.proofs.Common.{◌≡◌, ℕ, suc, ◌+◌, ◌-◌, ◌*◌, ◌/◌, ◌<◌, ◌≤◌, Bool, true, false, cond, ltb, leb, refl, ⊎_elim, mul-le-mul_right, mul-le-mul_left, le-div_iff_mul-le, arith}
+use Rattle.std.proofs.Common.{◌≡◌, ℕ, suc, ◌+◌, ◌-◌, ◌*◌, ◌/◌, ◌<◌, ◌≤◌, Bool, true, false, cond, ltb, leb, refl, ⊎_elim, mul-le-mul_right, le-mul_of_pos_right, le-div_iff_mul-le, arith}
 use Rattle.std.proofs.lemmas.Bool.{leb-true, leb-false, ltb-true, ltb-false, cases_lt}
 use Rattle.sheet.specs.declared.row.Row.{Row}
 use Rattle.rules.specs.Release.{next_release}
@@ -86,12 +86,9 @@ pub none_before_zero : (r : Row) → 0 < r.period → releases_before r 0 ≡ 0
 none_before_zero r pos =
     ⊎_elim (λ lt. absurd (omega (arith, released_then r 0 0 pos lt))) (λ ge. omega arith) (cases_lt 0 (releases_before r 0))
 
-at_least : (n p : ℕ) → 0 < p → n ≤ n * p
-at_least n p pos = let a : n * 1 ≤ n * p = mul-le-mul_left n pos in omega arith
-
 pub releases_within : (r : Row) (t : ℕ) → 0 < r.period → releases_before r t ≤ t
 releases_within r t pos =
     ⊎_elim
-    (λ lt. absurd (omega (arith, released_then r t t pos lt, at_least t r.period pos)))
+    (λ lt. absurd (omega (arith, released_then r t t pos lt, le-mul_of_pos_right t pos)))
     (λ ge. ge)
     (cases_lt t (releases_before r t))

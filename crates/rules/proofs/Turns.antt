@@ -1,75 +1,31 @@
 -- A tick keeps the room.
-use Rattle.std.proofs.Common.{◌≡◌, ℕ, zero, suc, ◌+◌, ◌-◌, ◌<◌, ◌≤◌, Bool, true, false, cond, eqb, ltb, leb, List, [], ◌∷◌, length, refl, ◌∙◌, arith}
+use Rattle.std.proofs.Common.{◌≡◌, ℕ, ◌+◌, ◌-◌, ◌<◌, ◌≤◌, Bool, true, false, leb, List, [], ◌∷◌, length, Some, None, Option, refl, ◌∙◌, arith}
 use Rattle.std.specs.List.{AllByRecursion}
 use Rattle.std.proofs.ByRecursion.{All-weaker}
 use Rattle.std.proofs.lemmas.List.Sums.{sum_by-cons}
-use Rattle.std.proofs.lemmas.Bool.{leb-true, leb-false, ltb-true, eqb-false}
+use Rattle.std.proofs.lemmas.Bool.{leb-true, leb-false}
 use Rattle.sheet.specs.declared.row.Row.{Row}
 use Rattle.verdict.specs.Test.{row_at}
 use Rattle.ready.specs.declared.job.Job.{Job}
 use Rattle.ready.specs.Order.{before}
 use Rattle.ready.specs.Sorted.{Sorted}
-use Rattle.ready.proofs.Puts.{all_put, sorted_put, sum_by_put_le}
+use Rattle.ready.proofs.Puts.{sum_by_put_le}
 use Rattle.duty_log.specs.declared.line.Event.{Event}
 use Rattle.duty_log.specs.declared.line.Event.TheVariants.{PutBack, Held, Done, Idle}
 use Rattle.rules.specs.declared.counts.TaskCounts.{TaskCounts}
-use Rattle.rules.specs.declared.hand.Hand.{Hand}
-use Rattle.rules.specs.declared.hand.Hand.TheVariants.{Empty, Holding}
+use Rattle.rules.specs.declared.hand.Held.{Held as HeldJob}
 use Rattle.rules.specs.State.{State, pending_of}
-use Rattle.rules.specs.Tick.{Letter, run, hold, finish, turn_of, worked, event_of, hand_after, waiting_after, with_tick, event_at, after_turn}
-use Rattle.rules.specs.Accounts.{Holds}
+use Rattle.rules.specs.declared.letter.Letter.{Letter}
+use Rattle.rules.specs.Tick.{turn_of, worked, hand_after, waiting_after, with_tick, event_at, after_turn}
 use Rattle.rules.specs.Demand.{Bounded}
 use Rattle.rules.proofs.Rows.{Ranges}
 use Rattle.rules.proofs.Tasks.{length_tick}
 use Rattle.rules.proofs.Demand.{hold_blocks}
 use Rattle.rules.proofs.Work.{left_by, work_by, earliest, ahead_by, ahead_same, ahead_room, earliest_tick, hold_left, left_near, left_far, hold_near, hold_far, hold_most, work_behind}
+use Rattle.rules.proofs.Ticks.{Tells, event_tells, all_after_run, sorted_after_run, holds_after_run}
 use Rattle.rules.proofs.Room.{Live, all_work, Room}
 
--- what an event says of the job: it goes on with a unit left, and is held only below the most
-abbrev Fits : Event → (left holds most : ℕ) → Type 0
-Fits PutBack left holds most = 1 ≤ left
-Fits Held left holds most = (1 ≤ left) × (holds < most)
-Fits Done left holds most = Unit {0}
-Fits Idle left holds most = Unit {0}
-
-some_left : (n : ℕ) → eqb n 0 ≡ false → 1 ≤ n
-some_left zero e = absurd (eqb-false 0 0 e refl)
-some_left (suc n) e = omega arith
-
-event_fits : (l : Letter) (left holds most : ℕ) → Fits (event_of l left holds most) left holds most
-event_fits finish left holds most = tt
-event_fits run left holds most = go (eqb left 0) refl
-  where
-    go : (b : Bool) → eqb left 0 ≡ b → Fits (cond b Done PutBack) left holds most
-    go true e = tt
-    go false e = some_left left e
-event_fits hold left holds most = go (eqb left 0) (ltb holds most) refl refl
-  where
-    go : (b c : Bool) → eqb left 0 ≡ b → ltb holds most ≡ c → Fits (cond b Done (cond c Held PutBack)) left holds most
-    go true c e f = tt
-    go false true e f = (some_left left e, ltb-true holds most f)
-    go false false e f = some_left left e
-
--- what follows of the job and the list that it leaves
-after_live : (rows : List Row) (t holds most : ℕ) (e : Event) (j : Job) (js : List Job) → Fits e j.left holds most
-    → j.key ≤ t + (row_at j.task rows).deadline → AllByRecursion (Live rows t) js → AllByRecursion (Live rows t) (pending_of (hand_after e j holds) (waiting_after e j js))
-after_live rows t holds most PutBack j js f k a = all_put j js (Live rows t) (f, k) a
-after_live rows t holds most Held j js f k a = ((f.0, k), a)
-after_live rows t holds most Done j js f k a = a
-after_live rows t holds most Idle j js f k a = a
-
-after_held : (rows : List Row) (holds : ℕ) (e : Event) (j : Job) → Fits e j.left holds (row_at j.task rows).hold → Holds rows (hand_after e j holds)
-after_held rows holds PutBack j f = tt
-after_held rows holds Held j f = (omega arith, omega arith)
-after_held rows holds Done j f = tt
-after_held rows holds Idle j f = tt
-
-after_sorted : (e : Event) (j : Job) (js : List Job) → Sorted before js → Sorted before (waiting_after e j js)
-after_sorted PutBack j js s = sorted_put j js s
-after_sorted Held j js s = s
-after_sorted Done j js s = s
-after_sorted Idle j js s = s
-
+-- the work that the job and the list leave
 after_work : (d holds : ℕ) (e : Event) (j : Job) (js : List Job) → work_by d (pending_of (hand_after e j holds) (waiting_after e j js)) ≤ left_by d j + work_by d js
 after_work d holds PutBack j js = sum_by_put_le j js (left_by d)
 after_work d holds Held j js = omega (arith, sum_by-cons (left_by d) j js)
@@ -91,7 +47,7 @@ after_far rows d holds Idle j = omega arith
 
 -- a job runs for a tick: from the two cases of a time, by which the job is due or past which it is due
 ran : (rows : List Row) (m t holds : ℕ) (e : Event) (tasks : List TaskCounts) (j : Job) (js : List Job)
-    → length tasks ≡ length rows → Live rows t j → Fits e (j.left - 1) holds (row_at j.task rows).hold → AllByRecursion (Live rows t) js → Sorted before js
+    → length tasks ≡ length rows → Live rows t j → Tells e (j.left - 1) holds (row_at j.task rows).hold → AllByRecursion (Live rows t) js → Sorted before js
     → ((d : ℕ) → d < m → 0 < left_by d j + work_by d js + ahead_by rows (earliest rows tasks) d (t + 1) (length rows)
     → left_by d j + work_by d js + ahead_by rows (earliest rows tasks) d (t + 1) (length rows) + t ≤ d)
     → ((d : ℕ) → d < m → d < j.key → 0 < work_by d js + ahead_by rows (earliest rows tasks) d (t + 1) (length rows)
@@ -100,10 +56,10 @@ ran : (rows : List Row) (m t holds : ℕ) (e : Event) (tasks : List TaskCounts) 
 ran rows m t holds e tasks j js counted live fits lives sorted near far =
     record {
       counted = length_tick e j.task tasks ∙ counted;
-      live = after_live rows (t + 1) holds (row_at j.task rows).hold e (worked j) js fits (omega arith)
+      live = all_after_run (Live rows (t + 1)) e (worked j) (j.left - 1) holds (row_at j.task rows).hold js fits (λ left more. (left, omega arith))
           (All-weaker (Live rows t) (Live rows (t + 1)) (λ k a. (a.0, omega arith)) js lives);
-      held = after_held rows holds e (worked j) fits;
-      sorted = after_sorted e (worked j) js sorted;
+      held = holds_after_run rows e j (j.left - 1) holds fits;
+      sorted = sorted_after_run e (worked j) js sorted;
       room = λ d below. go d below (leb j.key d) refl;
     }
   where
@@ -136,9 +92,9 @@ ran rows m t holds e tasks j js counted live fits lives sorted near far =
 abbrev pub HasRoom : List Row → ℕ → State → Type 0
 HasRoom rows m s = Room rows m s.clock s.clock s.tasks s.waiting s.hand
 
-pub after_tick : (rows : List Row) (m : ℕ) (l : Letter) (s : State) (waiting : List Job) (hand : Hand) → ((i : ℕ) → Ranges (row_at i rows)) → Bounded m rows
+pub after_tick : (rows : List Row) (m : ℕ) (l : Letter) (s : State) (waiting : List Job) (hand : Option HeldJob) → ((i : ℕ) → Ranges (row_at i rows)) → Bounded m rows
     → Room rows m s.clock (s.clock + 1) s.tasks waiting hand → HasRoom rows m (after_turn rows l (turn_of hand waiting) s)
-after_tick rows m l s [] Empty fine bounded h =
+after_tick rows m l s [] None fine bounded h =
     record {
       counted = h.counted;
       live = tt;
@@ -147,9 +103,9 @@ after_tick rows m l s [] Empty fine bounded h =
       room = λ d below some.
           omega (arith, ahead_room rows m (earliest rows s.tasks) d (s.clock + 1) fine bounded below (omega arith));
     }
-after_tick rows m l s (j ∷ js) Empty fine bounded h =
+after_tick rows m l s (j ∷ js) None fine bounded h =
     ran rows m s.clock 0 (event_at rows l j 0) s.tasks j js h.counted h.live.0
-    (event_fits l (j.left - 1) 0 (row_at j.task rows).hold) h.live.1 h.sorted.1
+    (event_tells l (j.left - 1) 0 (row_at j.task rows).hold) h.live.1 h.sorted.1
     (λ d below some.
     let sum = sum_by-cons (left_by d) j js in
     let fit = h.room d below (omega arith) in
@@ -160,17 +116,17 @@ after_tick rows m l s (j ∷ js) Empty fine bounded h =
     let late : j.key ≤ s.clock + (row_at j.task rows).deadline = h.live.0.1 in
     let block = hold_blocks rows j.task (d - (s.clock + 1)) (omega arith) in
     omega arith)
-after_tick rows m l s js (Holding j holds) fine bounded h =
-    ran rows m s.clock holds (event_at rows l j holds) s.tasks j js h.counted h.live.0
-    (event_fits l (j.left - 1) holds (row_at j.task rows).hold) h.live.1 h.sorted
+after_tick rows m l s js (Some held) fine bounded h =
+    ran rows m s.clock held.holds (event_at rows l held.job held.holds) s.tasks held.job js h.counted h.live.0
+    (event_tells l (held.job.left - 1) held.holds (row_at held.job.task rows).hold) h.live.1 h.sorted
     (λ d below some.
-    let sum = sum_by-cons (left_by d) j js in
+    let sum = sum_by-cons (left_by d) held.job js in
     let fit = h.room d below (omega arith) in
     omega arith)
     (λ d below past some.
-    let sum = sum_by-cons (left_by d) j js in
-    let none = left_far d j past in
-    let rest = hold_far rows d j holds past in
+    let sum = sum_by-cons (left_by d) held.job js in
+    let none = left_far d held.job past in
+    let rest = hold_far rows d held.job held.holds past in
     let fit = h.room d below (omega arith) in
-    let most : holds ≤ (row_at j.task rows).hold = h.held.1 in
+    let most : held.holds ≤ (row_at held.job.task rows).hold = h.held.1 in
     omega arith)

@@ -1,5 +1,5 @@
 -- The work that is due by a time: what pends of it, what is still to come, and how long a hold can keep it waiting.
-use Rattle.std.proofs.Common.{◌≡◌, ℕ, zero, suc, ◌+◌, ◌-◌, ◌<◌, ◌≤◌, max, Bool, true, false, cond, leb, List, [], ◌∷◌, length, get_or, take, set, sum_by, refl, ap, subst, add-one, arith}
+use Rattle.std.proofs.Common.{◌≡◌, ℕ, zero, suc, ◌+◌, ◌-◌, ◌<◌, ◌≤◌, max, Bool, true, false, cond, leb, List, [], ◌∷◌, length, Some, None, Option, get_or, take, set, sum_by, refl, ap, subst, add-one, arith}
 use Rattle.std.specs.List.{AllByRecursion}
 use Rattle.std.proofs.lemmas.List.{take_all}
 use Rattle.std.proofs.lemmas.List.Sums.{sum_by-cons, sum_by_more}
@@ -12,8 +12,7 @@ use Rattle.ready.specs.Order.{before}
 use Rattle.ready.proofs.Urgency.{least_key}
 use Rattle.duty_log.specs.declared.line.Event.{Event}
 use Rattle.rules.specs.declared.counts.TaskCounts.{TaskCounts}
-use Rattle.rules.specs.declared.hand.Hand.{Hand}
-use Rattle.rules.specs.declared.hand.Hand.TheVariants.{Empty, Holding}
+use Rattle.rules.specs.declared.hand.Held.{Held}
 use Rattle.rules.specs.State.{no_counts, task_at}
 use Rattle.rules.specs.Release.{next_release}
 use Rattle.rules.specs.Tick.{with_tick}
@@ -39,9 +38,9 @@ ahead_by rows next d t zero = 0
 ahead_by rows next d t (suc n) = ahead_by rows next d t n + demand (row_at (suc n) rows) (d - max (next (suc n)) t)
 
 -- how long a hold can still keep a job waiting that is due by d
-abbrev pub hold_left : List Row → ℕ → Hand → ℕ
-hold_left rows d Empty = 0
-hold_left rows d (Holding j holds) = cond (leb j.key d) 0 ((row_at j.task rows).hold + 1 - holds)
+abbrev pub hold_left : List Row → ℕ → Option Held → ℕ
+hold_left rows d None = 0
+hold_left rows d (Some held) = cond (leb held.job.key d) 0 ((row_at held.job.task rows).hold + 1 - held.holds)
 
 pub left_near : (d : ℕ) (j : Job) → j.key ≤ d → left_by d j ≡ j.left
 left_near d j k = ap (λ (b : Bool). cond b j.left 0) (le-leb j.key d k)
@@ -49,14 +48,14 @@ left_near d j k = ap (λ (b : Bool). cond b j.left 0) (le-leb j.key d k)
 pub left_far : (d : ℕ) (j : Job) → d < j.key → left_by d j ≡ 0
 left_far d j k = ap (λ (b : Bool). cond b j.left 0) (lt-leb j.key d k)
 
-pub hold_near : (rows : List Row) (d : ℕ) (j : Job) (holds : ℕ) → j.key ≤ d → hold_left rows d (Holding j holds) ≡ 0
+pub hold_near : (rows : List Row) (d : ℕ) (j : Job) (holds : ℕ) → j.key ≤ d → hold_left rows d (Some (record { job = j; holds = holds })) ≡ 0
 hold_near rows d j holds k = ap (λ (b : Bool). cond b 0 ((row_at j.task rows).hold + 1 - holds)) (le-leb j.key d k)
 
 pub hold_far : (rows : List Row) (d : ℕ) (j : Job) (holds : ℕ) → d < j.key
-    → hold_left rows d (Holding j holds) ≡ (row_at j.task rows).hold + 1 - holds
+    → hold_left rows d (Some (record { job = j; holds = holds })) ≡ (row_at j.task rows).hold + 1 - holds
 hold_far rows d j holds k = ap (λ (b : Bool). cond b 0 ((row_at j.task rows).hold + 1 - holds)) (lt-leb j.key d k)
 
-pub hold_most : (rows : List Row) (d : ℕ) (j : Job) (holds : ℕ) → hold_left rows d (Holding j holds) ≤ (row_at j.task rows).hold + 1 - holds
+pub hold_most : (rows : List Row) (d : ℕ) (j : Job) (holds : ℕ) → hold_left rows d (Some (record { job = j; holds = holds })) ≤ (row_at j.task rows).hold + 1 - holds
 hold_most rows d j holds = go (leb j.key d)
   where
     go : (b : Bool) → cond b 0 ((row_at j.task rows).hold + 1 - holds) ≤ (row_at j.task rows).hold + 1 - holds

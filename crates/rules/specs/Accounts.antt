@@ -1,6 +1,5 @@
 -- Laws of every run that a reader of the field would name without having seen the step.
-use Rattle.std.specs.Prelude.{◌≡◌, ℕ, ◌+◌, ◌-◌, ◌*◌, ◌^◌, ◌<◌, ◌≤◌, Bool, true, false, cond, List, [], length, Some, None, Ok, sum_by, count_by, ◌==◌}
-use Rattle.std.specs.List.{ContainsAt, AllByRecursion}
+use Rattle.std.specs.Prelude.{◌≡◌, ℕ, ◌+◌, ◌-◌, ◌*◌, ◌^◌, ◌<◌, ◌≤◌, Bool, true, false, cond, List, [], length, Some, None, Option, Ok, All, Contains, sum_by, count_by, ◌==◌}
 use Rattle.sheet.specs.declared.row.Row.{Row}
 use Rattle.sheet.specs.declared.table.Table.{Table}
 use Rattle.sheet.specs.Rows.{units}
@@ -14,11 +13,11 @@ use Rattle.duty_log.specs.declared.line.Outcome.{Outcome}
 use Rattle.rules.specs.declared.counts.TaskCounts.{TaskCounts}
 use Rattle.rules.specs.declared.call.Call.{Call}
 use Rattle.rules.specs.declared.call.Call.TheVariants.{Step, Counts, TaskCounts as AskTask, First}
-use Rattle.rules.specs.declared.hand.Hand.{Hand}
-use Rattle.rules.specs.declared.hand.Hand.TheVariants.{Empty, Holding}
+use Rattle.rules.specs.declared.hand.Held.{Held}
 use Rattle.rules.specs.State.{State, task_at, pending}
 use Rattle.rules.specs.Release.{next_release, next_job, due, releases, released}
-use Rattle.rules.specs.Tick.{Letter, runs, turn_of, worked, event_at}
+use Rattle.rules.specs.declared.letter.Letter.{Letter}
+use Rattle.rules.specs.Tick.{runs, turn_of, worked, event_at}
 use Rattle.rules.specs.Step.{step, last_clock}
 use Rattle.rules.specs.Run.{after_run}
 use Rattle.rules.specs.Deadlines.{releases_before}
@@ -53,18 +52,20 @@ pub record Proper (rows : List Row) (s : State) (j : Job) : Type 0 where
   pub some : 1 ≤ j.left
   pub most : j.left ≤ units (row_at j.task rows)
 
+-- every pending job is such a job
 abbrev pub AllProper : List Row → State → Type 0
-AllProper rows s = AllByRecursion (Proper rows s) (pending s)
+AllProper rows s = All (Proper rows s) (pending s)
 
 -- the waiting list is one that a queue can have
 abbrev pub WaitingLawful : List Row → State → Type 0
 WaitingLawful rows s = Lawful s.waiting
 
 -- a job in the hand has held at least once and at most as often as its row allows
-abbrev pub Holds : List Row → Hand → Type 0
-Holds rows Empty = Unit {0}
-Holds rows (Holding j holds) = (1 ≤ holds) × (holds ≤ (row_at j.task rows).hold)
+abbrev pub Holds : List Row → Option Held → Type 0
+Holds rows None = Unit {0}
+Holds rows (Some held) = (1 ≤ held.holds) × (held.holds ≤ (row_at held.job.task rows).hold)
 
+-- so it is with the hand of the bench
 abbrev pub HoldsFew : List Row → State → Type 0
 HoldsFew rows s = Holds rows s.hand
 
@@ -95,7 +96,7 @@ Unended First = Unit {0}
 
 -- no call is a step with the letter f
 abbrev pub NoneEnded : List Call → Type 0
-NoneEnded calls = AllByRecursion Unended calls
+NoneEnded calls = All Unended calls
 
 -- and exactly that where nothing was ended early
 abbrev pub GivenExactly : Type 0
@@ -112,14 +113,14 @@ IdleOnlyIfNothingPends rows s =
 -- where the hand is empty, no pending job is more urgent than the one that runs
 abbrev pub MostUrgentRuns : List Row → State → Type 0
 MostUrgentRuns rows s =
-    (j : Job) (holds : ℕ) (js : List Job) → s.hand ≡ Empty
-    → turn_of s.hand (released rows s).waiting ≡ runs j holds js → AllByRecursion (λ k. before k j ≡ false) (pending (released rows s))
+    (j : Job) (holds : ℕ) (js : List Job) → s.hand ≡ None
+    → turn_of s.hand (released rows s).waiting ≡ runs j holds js → All (λ k. before k j ≡ false) (pending (released rows s))
 
 -- the job is pending, its deadline has come, and no pending job is more urgent
 pub record Late (s : State) (j : Job) : Type 0 where
-  pub pends : ContainsAt (pending s) j
+  pub pends : Contains (pending s) j
   pub due : j.key ≤ s.clock
-  pub first : AllByRecursion (λ k. before k j ≡ false) (pending s)
+  pub first : All (λ k. before k j ≡ false) (pending s)
 
 -- the miss of a stopped bench is such a job
 abbrev pub MissIsLate : List Row → State → Type 0
@@ -137,19 +138,21 @@ pub record PutsAccepted (rows : List Row) (s : State) : Type 0 where
 abbrev pub PutsAcceptedIfRunning : List Row → State → Type 0
 PutsAcceptedIfRunning rows s = s.miss ≡ None → PutsAccepted rows s
 
--- every number of the bench fits 32 bits
+-- no count of a task exceeds the clock
 pub record FitsTask (s : State) (k : TaskCounts) : Type 0 where
   pub released : k.released ≤ s.clock
   pub done : k.done ≤ s.clock
   pub given : k.given ≤ s.clock
 
+-- every number of a job fits 32 bits
 abbrev pub FitsJob : Job → Type 0
 FitsJob j = (j.key < 2 ^ 32) × (j.task ≤ 32) × (j.number < 2 ^ 32) × (j.left < 2 ^ 32)
 
+-- every number of the bench fits 32 bits
 pub record NumbersFit (rows : List Row) (s : State) : Type 0 where
   pub clock : s.clock ≤ last_clock
   pub idle : s.counts.idle ≤ s.clock
   pub begun : s.counts.begun ≤ s.clock
   pub interruptions : s.counts.interruptions ≤ s.clock
-  pub tasks : AllByRecursion (FitsTask s) s.tasks
-  pub jobs : AllByRecursion FitsJob (pending s)
+  pub tasks : All (FitsTask s) s.tasks
+  pub jobs : All FitsJob (pending s)

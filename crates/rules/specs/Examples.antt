@@ -3,16 +3,17 @@ use Rattle.std.specs.Prelude.{◌≡◌, ℕ, List, [], ◌∷◌, map, replicat
 use Rattle.sheet.specs.declared.row.Row.{Row}
 use Rattle.duty_log.specs.declared.line.Event.TheVariants.{PutBack, Held, Done, Idle}
 use Rattle.duty_log.specs.declared.line.Outcome.{Outcome}
-use Rattle.rules.specs.declared.refusal.StepRefusal.{StepRefusal}
+use Rattle.duty_log.specs.declared.refusal.StepRefusal.{StepRefusal}
 use Rattle.rules.specs.declared.call.Call.{Call}
 use Rattle.rules.specs.declared.call.Call.TheVariants.{Step}
-use Rattle.rules.specs.declared.refusal.StepRefusal.TheVariants.{Stopped, LastClock, NoSuchLetter}
+use Rattle.duty_log.specs.declared.refusal.StepRefusal.TheVariants.{Stopped, LastClock, NoSuchLetter}
 use Rattle.rules.specs.declared.refusal.QuestionRefusal.TheVariants.{NoSuchTask}
 use Rattle.rules.specs.State.{no_counts}
 use Rattle.rules.specs.Step.{step, task_answer, first_answer}
 use Rattle.rules.specs.Run.{after_run, closing_of}
 use Rattle.rules.specs.Deadlines.{deadlines_by, releases_before}
-use Rattle.rules.specs.Refusals.{step_number, question_number}
+use Rattle.duty_log.specs.Refusals.{step_number}
+use Rattle.rules.specs.Refusals.{question_number}
 
 -- a row by phase, period, execution, deadline and hold, for periods whose code is the period itself
 abbrev pub row : (f p e d h : ℕ) → Row
@@ -22,12 +23,15 @@ row f p e d h = record { label = replicate 8 32; phase = f; period = p; code = p
 abbrev pub letters : List ℕ → List Call
 letters cs = map Step cs
 
+-- two rows of which the second may hold
 abbrev pub sounder : List Row
 sounder = row 0 4 1 3 0 ∷ row 2 6 3 6 1 ∷ []
 
+-- two rows that ask more units than there are ticks
 abbrev pub overloaded : List Row
 overloaded = row 0 4 2 2 0 ∷ row 0 4 3 4 0 ∷ []
 
+-- two rows that take turns
 abbrev pub shifted : List Row
 shifted = row 0 4 2 2 0 ∷ row 2 4 2 2 0 ∷ []
 
@@ -35,6 +39,7 @@ shifted = row 0 4 2 2 0 ∷ row 2 4 2 2 0 ∷ []
 abbrev pub answer_after : List Row → List Call → ℕ → Result Outcome StepRefusal
 answer_after rows calls c = (step rows c (after_run rows calls)).answer
 
+-- runs that miss a deadline, that go on, and that hold
 pub record Examples : Type 0 where
   pub late : (after_run overloaded (letters (codes "rrrr"))).miss ≡ Some (record { key = 4; task = 2; number = 1; left = 1 })
   pub late_clock : (after_run overloaded (letters (codes "rrrr"))).clock ≡ 4
@@ -104,6 +109,7 @@ pub record Closed : Type 0 where
 abbrev pub slow : Row
 slow = row 2 6 3 9 1
 
+-- its deadlines and releases, counted
 pub record CountedOut : Type 0 where
   pub none_due : deadlines_by slow 10 ≡ 0
   pub first_due : deadlines_by slow 11 ≡ 1

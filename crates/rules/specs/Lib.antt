@@ -2,6 +2,7 @@ pub mod Refusals
 pub mod State
 pub mod Release
 pub mod Tick
+pub mod Letters
 pub mod Step
 pub mod Run
 pub mod Deadlines

@@ -7,8 +7,8 @@ use Rattle.duty_log.specs.declared.line.Event.{Event}
 use Rattle.duty_log.specs.declared.line.Event.TheVariants.{PutBack, Held, Done, Idle}
 use Rattle.duty_log.specs.declared.line.Tick.{Tick}
 use Rattle.duty_log.specs.declared.line.Outcome.{Outcome}
-use Rattle.rules.specs.declared.hand.JobId.{JobId}
-use Rattle.rules.specs.declared.refusal.StepRefusal.{StepRefusal}
+use Rattle.ready.specs.declared.job.JobId.{JobId}
+use Rattle.duty_log.specs.declared.refusal.StepRefusal.{StepRefusal}
 use Rattle.rules.specs.declared.call.Call.{Call}
 use Rattle.rules.specs.declared.call.Call.TheVariants.{Step, Counts, TaskCounts, First}
 use Rattle.rules.specs.State.{State, opened}
@@ -46,6 +46,7 @@ left_by Held job = Some job
 left_by Done job = None
 left_by Idle job = None
 
+-- the job that the line leaves unfinished
 abbrev pub unfinished : Tick → Option JobId
 unfinished t = left_by t.event (record { task = t.task; number = t.job })
 

@@ -3,7 +3,7 @@ use Rattle.std.specs.Prelude.{◌≡◌, ℕ, ◌+◌, ◌<◌, List, [], ◌∷
 use Rattle.sheet.specs.declared.row.Row.{Row}
 use Rattle.ready.specs.declared.job.Job.{Job}
 use Rattle.duty_log.specs.declared.line.Outcome.{Outcome}
-use Rattle.rules.specs.declared.refusal.StepRefusal.TheVariants.{Stopped, LastClock, NoSuchLetter}
+use Rattle.duty_log.specs.declared.refusal.StepRefusal.TheVariants.{Stopped, LastClock, NoSuchLetter}
 use Rattle.rules.specs.declared.call.Call.{Call}
 use Rattle.rules.specs.declared.call.Call.TheVariants.{Counts, TaskCounts, First}
 use Rattle.rules.specs.State.{State}
@@ -38,6 +38,7 @@ pub record Questions (rows : List Row) (s : State) : Type 0 where
   pub task : (i : ℕ) → called rows (TaskCounts i) s ≡ s
   pub first : called rows First s ≡ s
 
+-- so it is with every table and state
 abbrev pub EveryQuestion : Type 0
 EveryQuestion = (rows : List Row) (s : State) → Questions rows s
 
@@ -47,5 +48,6 @@ pub record Runs (rows : List Row) (s : State) : Type 0 where
   pub one : (c : Call) → run_from rows (c ∷ []) s ≡ called rows c s
   pub joined : (xs ys : List Call) → run_from rows (xs ++ ys) s ≡ run_from rows ys (run_from rows xs s)
 
+-- so it is from every state
 abbrev pub CallsInOrder : Type 0
 CallsInOrder = (rows : List Row) (s : State) → Runs rows s

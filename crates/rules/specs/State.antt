@@ -1,20 +1,20 @@
 -- The parts of a bench, over a plain waiting list.
-use Rattle.std.specs.Prelude.{ℕ, ◌-◌, List, [], ◌∷◌, length, replicate, None, Option, slice_index_or}
+use Rattle.std.specs.Prelude.{ℕ, ◌-◌, List, [], ◌∷◌, length, replicate, None, Some, Option, slice_index_or}
 use Rattle.sheet.specs.declared.row.Row.{Row}
 use Rattle.ready.specs.declared.job.Job.{Job}
 use Rattle.rules.specs.declared.counts.TaskCounts.{TaskCounts}
 use Rattle.rules.specs.declared.counts.Counts.{Counts}
-use Rattle.rules.specs.declared.hand.Hand.{Hand}
-use Rattle.rules.specs.declared.hand.Hand.TheVariants.{Empty, Holding}
-use Rattle.rules.specs.declared.hand.JobId.{JobId}
+use Rattle.rules.specs.declared.hand.Held.{Held}
+use Rattle.ready.specs.declared.job.JobId.{JobId}
 
+-- a bench as the rules see it
 pub record State : Type 0 where
   -- the ticks since the bench was opened
   pub clock : ℕ
   -- the waiting jobs, most urgent first
   pub waiting : List Job
   -- the job that keeps the processor, if any
-  pub hand : Hand
+  pub hand : Option Held
   -- the job that ran in the tick before and is not done, if any
   pub previous : Option JobId
   -- the counts of each task, first to last
@@ -33,10 +33,11 @@ abbrev pub task_at : ℕ → List TaskCounts → TaskCounts
 task_at i tasks = slice_index_or tasks (i - 1) no_counts
 
 -- the jobs that are released and not done: the one in the hand and those that wait
-abbrev pub pending_of : Hand → List Job → List Job
-pending_of Empty js = js
-pending_of (Holding job holds) js = job ∷ js
+abbrev pub pending_of : Option Held → List Job → List Job
+pending_of None js = js
+pending_of (Some held) js = held.job ∷ js
 
+-- the pending jobs of a bench
 abbrev pub pending : State → List Job
 pending s = pending_of s.hand s.waiting
 
@@ -45,7 +46,7 @@ abbrev pub opened : List Row → State
 opened rows = record {
   clock = 0;
   waiting = [];
-  hand = Empty;
+  hand = None;
   previous = None;
   tasks = replicate (length rows) no_counts;
   counts = record { idle = 0; begun = 0; interruptions = 0 };

@@ -5,21 +5,19 @@ use Rattle.ready.specs.declared.job.Job.{Job}
 use Rattle.ready.specs.Waiting.{first_of}
 use Rattle.duty_log.specs.declared.line.Outcome.{Outcome}
 use Rattle.rules.specs.declared.counts.TaskCounts.{TaskCounts}
-use Rattle.rules.specs.declared.refusal.StepRefusal.{StepRefusal}
-use Rattle.rules.specs.declared.refusal.StepRefusal.TheVariants.{Stopped, LastClock, NoSuchLetter}
+use Rattle.duty_log.specs.declared.refusal.StepRefusal.{StepRefusal}
+use Rattle.duty_log.specs.declared.refusal.StepRefusal.TheVariants.{Stopped, LastClock, NoSuchLetter}
 use Rattle.rules.specs.declared.refusal.QuestionRefusal.{QuestionRefusal}
 use Rattle.rules.specs.declared.refusal.QuestionRefusal.TheVariants.{NoSuchTask}
 use Rattle.rules.specs.State.{State, task_at}
 use Rattle.rules.specs.Release.{released}
-use Rattle.rules.specs.Tick.{Letter, run, hold, finish, Ticked, tick}
+use Rattle.rules.specs.declared.letter.Letter.{Letter}
+use Rattle.rules.specs.Letters.{letter_of}
+use Rattle.rules.specs.Tick.{Ticked, tick}
 
 -- the clock at which a bench takes no more steps
 abbrev pub last_clock : ℕ
 last_clock = 1000000000
-
--- the letter that a character is: r, h or f
-abbrev pub letter_of : ℕ → Option Letter
-letter_of c = cond (c == 114) (Some run) (cond (c == 104) (Some hold) (cond (c == 102) (Some finish) None))
 
 -- what a step leaves and what it answers
 pub record Stepped : Type 0 where

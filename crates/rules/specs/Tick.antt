@@ -12,27 +12,23 @@ use Rattle.duty_log.specs.declared.line.Tick.{Tick}
 use Rattle.duty_log.specs.declared.line.Miss.{Miss}
 use Rattle.duty_log.specs.declared.line.Outcome.{Outcome}
 use Rattle.rules.specs.declared.counts.TaskCounts.{TaskCounts}
-use Rattle.rules.specs.declared.hand.Hand.{Hand}
-use Rattle.rules.specs.declared.hand.Hand.TheVariants.{Empty, Holding}
-use Rattle.rules.specs.declared.hand.JobId.{JobId}
+use Rattle.rules.specs.declared.hand.Held.{Held as HeldJob}
+use Rattle.ready.specs.declared.job.JobId.{JobId}
+use Rattle.rules.specs.declared.letter.Letter.{Letter}
+use Rattle.rules.specs.declared.letter.Letter.TheVariants.{Run, Hold, Finish}
 use Rattle.rules.specs.State.{State, task_at}
 
--- what the technician asks of the job that runs: to go on, to hold the processor, or to end
-pub data Letter : Type 0 where
-  run : Letter
-  hold : Letter
-  finish : Letter
-
 -- who runs: nobody, or a job with its holds in a row so far and the jobs that wait besides
+-- (not an option: of a record of the three it says no more, and takes longer)
 pub data Turn : Type 0 where
   nobody : Turn
   runs : Job → ℕ → List Job → Turn
 
 -- 2: the job in the hand runs; if the hand is empty, the first waiting job
-abbrev pub turn_of : Hand → List Job → Turn
-turn_of (Holding job holds) js = runs job holds js
-turn_of Empty [] = nobody
-turn_of Empty (j ∷ js) = runs j 0 js
+abbrev pub turn_of : Option HeldJob → List Job → Turn
+turn_of (Some held) js = runs held.job held.holds js
+turn_of None [] = nobody
+turn_of None (j ∷ js) = runs j 0 js
 
 -- 1 if the test holds, else 0
 abbrev pub one_if : Bool → ℕ
@@ -53,16 +49,16 @@ worked j = record { key = j.key; task = j.task; number = j.number; left = j.left
 
 -- 5: what becomes of a job that has run, by the units then left, its holds in a row and the most that its row allows
 abbrev pub event_of : Letter → (left holds most : ℕ) → Event
-event_of finish left holds most = Done
-event_of run left holds most = cond (left == 0) Done PutBack
-event_of hold left holds most = cond (left == 0) Done (cond (nat_lt holds most) Held PutBack)
+event_of Finish left holds most = Done
+event_of Run left holds most = cond (left == 0) Done PutBack
+event_of Hold left holds most = cond (left == 0) Done (cond (nat_lt holds most) Held PutBack)
 
 -- 5: the hand after the job has run
-abbrev pub hand_after : Event → Job → ℕ → Hand
-hand_after Held j holds = Holding j (holds + 1)
-hand_after PutBack j holds = Empty
-hand_after Done j holds = Empty
-hand_after Idle j holds = Empty
+abbrev pub hand_after : Event → Job → ℕ → Option HeldJob
+hand_after Held j holds = Some (record { job = j; holds = holds + 1 })
+hand_after PutBack j holds = None
+hand_after Done j holds = None
+hand_after Idle j holds = None
 
 -- 5: the waiting list after the job has run
 abbrev pub waiting_after : Event → Job → List Job → List Job
@@ -115,7 +111,7 @@ abbrev pub idle_state : State → State
 idle_state s = record {
   clock = s.clock + 1;
   waiting = [];
-  hand = Empty;
+  hand = None;
   previous = None;
   tasks = s.tasks;
   counts = record {
@@ -147,9 +143,9 @@ urgent_of j None = j
 urgent_of j (Some w) = cond (before w j) w j
 
 -- 7: the most urgent job among hand and waiting list
-abbrev pub most_urgent : Hand → List Job → Option Job
-most_urgent Empty js = first_of js
-most_urgent (Holding job holds) js = Some (urgent_of job (first_of js))
+abbrev pub most_urgent : Option HeldJob → List Job → Option Job
+most_urgent None js = first_of js
+most_urgent (Some held) js = Some (urgent_of held.job (first_of js))
 
 -- 7: the job if its key is at or below the clock
 abbrev pub late_at : ℕ → Option Job → Option Job

@@ -1,5 +1,5 @@
 // What can be asked of an open bench.
-#[derive(Clone, Copy)]
+#[derive(Clone, Copy, Debug, PartialEq, Eq)]
 pub enum Call {
     // a step with a letter
     Step(char),

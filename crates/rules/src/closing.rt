@@ -7,6 +7,7 @@ use ready::job::Job;
 pub struct Closing {
     pub clock: u32,
     pub counts: Counts,
+    // a count beside the array: the memory of a bench is fixed, and a table has up to 32 rows
     pub rows: usize,
     pub tasks: [TaskCounts; 32],
     pub miss: Option<Job>,

@@ -1,7 +1,7 @@
 // What a bench counts.
 
 // The counts of one task.
-#[derive(Clone, Copy)]
+#[derive(Clone, Copy, Debug, PartialEq, Eq, Default)]
 pub struct TaskCounts {
     // jobs released
     pub released: u32,
@@ -12,7 +12,7 @@ pub struct TaskCounts {
 }
 
 // The counts of the whole bench.
-#[derive(Clone, Copy)]
+#[derive(Clone, Copy, Debug, PartialEq, Eq, Default)]
 pub struct Counts {
     // ticks in which nothing was pending
     pub idle: u32,

@@ -1,16 +1,9 @@
-// The hand, and the job before.
+// The hand.
 use ready::job::Job;
 
-// The hand: a job that keeps the processor for the next tick, with its holds in a row.
-#[derive(Clone, Copy)]
-pub enum Hand {
-    Empty,
-    Holding { job: Job, holds: u32 },
-}
-
-// A job by its task and its number.
-#[derive(Clone, Copy)]
-pub struct JobId {
-    pub task: u32,
-    pub number: u32,
+// A job that keeps the processor for the next tick, with its holds in a row.
+#[derive(Clone, Copy, Debug, PartialEq, Eq)]
+pub struct Held {
+    pub job: Job,
+    pub holds: u32,
 }

@@ -5,5 +5,6 @@ pub mod call;
 pub mod closing;
 pub mod counts;
 pub mod hand;
+pub mod letter;
 pub mod refusal;
 pub mod theorems;

@@ -1,34 +1,11 @@
-// Why a step or a question is refused.
+// Why a question is refused.
 ghost use Rattle.std.specs.Prelude.{◌≡◌};
-ghost use Rattle.rules.specs.Refusals.{step_number, question_number};
+ghost use Rattle.rules.specs.Refusals.{question_number};
 
-#[derive(Clone, Copy)]
-pub enum StepRefusal {
-    // the bench is stopped
-    Stopped,
-    // the clock is at its last value
-    LastClock,
-    // the letter is none of r, h, f
-    NoSuchLetter,
-}
-
-#[derive(Clone, Copy)]
+#[derive(Clone, Copy, Debug, PartialEq, Eq)]
 pub enum QuestionRefusal {
     // the task is 0 or beyond the rows
-    NoSuchTask,
-}
-
-impl StepRefusal {
-    // The refusal's number in logs and documents.
-    pub fn number(self) -> u32
-        ensures { result ≡ step_number self }
-    {
-        match self {
-            StepRefusal::Stopped => 12,
-            StepRefusal::LastClock => 13,
-            StepRefusal::NoSuchLetter => 14,
-        }
-    }
+    NoSuchTask = 15,
 }
 
 impl QuestionRefusal {
@@ -36,8 +13,6 @@ impl QuestionRefusal {
     pub fn number(self) -> u32
         ensures { result ≡ question_number self }
     {
-        match self {
-            QuestionRefusal::NoSuchTask => 15,
-        }
+        self as u32
     }
 }

@@ -56,8 +56,8 @@ pub fn a_running_bench_is_in_time()
 
 // On every table a bench is stopped exactly when a deadline is not met, and its miss is the most urgent late job.
 pub fn a_bench_stops_when_a_deadline_is_missed()
-    ensures whileInTime { EveryRun RunsWhileInTime }
-    ensures missIsLate { EveryRun MissIsLate }
+    ensures while_in_time { EveryRun RunsWhileInTime }
+    ensures miss_is_late { EveryRun MissIsLate }
 {}
 
 // A bench goes on as long as it may: no rule of a run is empty because steps are refused.
@@ -67,9 +67,9 @@ pub fn steps_are_done_or_refused_in_order()
 
 // Jobs are released on time, none is lost, and those of a task are done in the order of their releases.
 pub fn pending_jobs_are_the_released_and_not_done()
-    ensures onTime { EveryRun ReleasedOnTime }
-    ensures nothingLost { EveryRun NothingLost }
-    ensures inOrder { EveryRun InOrder }
+    ensures on_time { EveryRun ReleasedOnTime }
+    ensures nothing_lost { EveryRun NothingLost }
+    ensures in_order { EveryRun InOrder }
     ensures proper { EveryRun AllProper }
 {}
 
@@ -110,13 +110,13 @@ pub fn lines_tell_the_counts()
 
 // Every tick was given to a task, or nothing was pending.
 pub fn every_tick_is_accounted_for()
-    ensures idleOrGiven { EveryRun TimeAccounted }
-    ensures idleIfNothing { EveryRun IdleOnlyIfNothingPends }
+    ensures idle_or_given { EveryRun TimeAccounted }
+    ensures idle_if_nothing { EveryRun IdleOnlyIfNothingPends }
 {}
 
 // A job gets at most its units, and exactly them unless it is ended early.
 pub fn jobs_get_their_units()
-    ensures atMost { EveryRun GivenAtMost }
+    ensures at_most { EveryRun GivenAtMost }
     ensures exactly { GivenExactly }
 {}
 

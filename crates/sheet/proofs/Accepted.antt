@@ -1,5 +1,5 @@
 -- What the reader accepts is lawful.
-use Rattle.std.proofs.Common.{◌≡◌, ℕ, zero, suc, ◌+◌, Bool, true, false, cond, eqb, List, [], ◌∷◌, drop, Some, None, Ok, Err, Option, Result, sym, refl, ap, subst, arith, eq-eqb}
+use Rattle.std.proofs.Common.{unwrap_or, ◌≡◌, ℕ, zero, suc, ◌+◌, Bool, true, false, cond, eqb, List, [], ◌∷◌, drop, Some, None, Ok, Err, Option, Result, sym, refl, ap, subst, arith, eq-eqb}
 use Rattle.std.proofs.lemmas.Bool.{and_from}
 use Rattle.std.proofs.lemmas.Bool.Decides.{nat_tests}
 use Rattle.periods.specs.Periods.{no_entry, period_of, named}
@@ -8,7 +8,7 @@ use Rattle.sheet.specs.declared.fault.Rule.{Rule}
 use Rattle.sheet.specs.declared.fault.Fault.{Fault}
 use Rattle.sheet.specs.Rows.{broken, intact, lawful_row, lawful_after}
 use Rattle.sheet.specs.Sheet.{two_at}
-use Rattle.sheet.specs.Reading.{or_zero, row_in, closed, judged, read_row, then, read_rows}
+use Rattle.sheet.specs.Reading.{row_in, closed, judged, read_row, then, read_rows}
 use Rattle.sheet.proofs.Named.{entry_named}
 
 -- what an Ok comes from
@@ -49,7 +49,7 @@ row_read k before bs r e =
     record { is = q.0; ends = p.0; keeps = subst (λ x. intact (broken before x) ≡ true) q.0 (ap intact q.1) }
 
 named_right : (bs : List ℕ) → no_entry (two_at bs 24) ≡ false → eqb (row_in bs).period (period_of (row_in bs).code) ≡ true
-named_right bs e = eq-eqb (or_zero (named (two_at bs 24))) (period_of (two_at bs 24)) (entry_named (two_at bs 24) e)
+named_right bs e = eq-eqb (unwrap_or (named (two_at bs 24)) 0) (period_of (two_at bs 24)) (entry_named (two_at bs 24) e)
 
 row_lawful : (before : ℕ) (bs : List ℕ) (r : Row) → ReadRow before bs r → lawful_row before r ≡ true
 row_lawful before bs r h =

@@ -1,6 +1,6 @@
 -- Accepted sheets say lawful rows, and lawful rows have a table.
-use Rattle.std.proofs.Common.{◌≡◌, ℕ, zero, suc, ◌+◌, ◌-◌, true, eqb, ltb, List, [], ◌∷◌, ◌++◌, length, take, drop, replicate, Ok, sym, refl, ap, ◌∙◌, subst, arith}
-use Rattle.std.proofs.lemmas.List.{length-append, length-replicate, get_or-append_right}
+use Rattle.std.proofs.Common.{◌≡◌, ℕ, zero, suc, ◌+◌, ◌-◌, true, eqb, ltb, List, [], ◌∷◌, ◌++◌, length, drop, replicate, Ok, sym, refl, ap, ◌∙◌, subst, arith}
+use Rattle.std.proofs.lemmas.List.{take_at, length-append, length-replicate, get_or-append_right}
 use Rattle.sheet.specs.declared.row.Row.{Row}
 use Rattle.sheet.specs.declared.fault.Fault.TheVariants.{Short, Length}
 use Rattle.sheet.specs.Rows.{blank, lawful_after}
@@ -31,10 +31,6 @@ says_lawful bs rows e =
     let few = header_count bs q.0 q.1.0 in
     (omega (arith, few.0), omega (arith, few.1), rows_lawful q.0 1 0 (drop 16 bs) rows r.1)
 
-take_front : (xs ys : List Row) → take (length xs) (xs ++ ys) ≡ xs
-take_front [] ys = refl
-take_front (x ∷ xs) ys = ap (λ l. x ∷ l) (take_front xs ys)
-
 pub rows_have_table : RowsHaveTable
 rows_have_table rows some few lawful =
     let pad = replicate (32 - length rows) blank in (
@@ -43,9 +39,9 @@ rows_have_table rows some few lawful =
         count = length rows;
         some = some;
         few = few;
-        lawful = subst (λ l. lawful_after 0 l ≡ true) (sym (take_front rows pad)) lawful;
+        lawful = subst (λ l. lawful_after 0 l ≡ true) (sym (take_at rows pad (length rows) refl)) lawful;
         full = let a = length-append rows pad in let b = length-replicate (32 - length rows) blank in omega arith;
         padded = λ k past. get_or-append_right rows pad (length rows) k blank refl past ∙ blank_at (32 - length rows) (k - length rows);
       },
-      take_front rows pad,
+      take_at rows pad (length rows) refl,
     )

@@ -1,5 +1,6 @@
 pub mod Padding
 pub mod Named
+pub mod Fronts
 pub mod Reading
 pub mod Accepted
 pub mod Sizes

@@ -1,5 +1,5 @@
 -- How writes after one another join.
-use Rattle.std.proofs.Common.{◌≡◌, ℕ, ◌+◌, ◌<◌, ◌≤◌, List, [], ◌++◌, length, get_or, take, drop, Ok, Err, Result, sym, ap, ◌∙◌, subst, append_assoc, add-zero, add_assoc, length-append, take-append-drop, le-leb}
+use Rattle.std.proofs.Common.{◌≡◌, ℕ, ◌+◌, ◌<◌, ◌≤◌, List, ◌++◌, length, get_or, take, drop, Ok, Err, Result, sym, ap, ◌∙◌, subst, append_assoc, add_assoc, length-append, le-leb}
 use borrow.Author.Tests.{lt-leb}
 use Rattle.std.proofs.lemmas.List.{take_at, drop_at, length-take-le, drop-drop, at_drop_more}
 use Rattle.sheet.specs.declared.row.Row.{Row}
@@ -8,9 +8,6 @@ use Rattle.sheet.specs.declared.refusal.WriteRefusal.TheVariants.{ShortBuffer}
 use Rattle.sheet.specs.Sheet.{row_bytes, rows_bytes}
 use Rattle.sheet.specs.Writing.{put, Written, Writes}
 use Rattle.sheet.proofs.Sizes.{length_row}
-
-pub put_none : (old : List ℕ) (at : ℕ) → put old at [] ≡ old
-put_none old at = ap (λ n. take at old ++ drop n old) (add-zero at) ∙ take-append-drop at old
 
 pub put_put : (old : List ℕ) (at : ℕ) (xs ys : List ℕ) → at ≤ length old → put (put old at xs) (at + length xs) ys ≡ put old at (xs ++ ys)
 put_put old at xs ys h =
@@ -26,11 +23,6 @@ put_put old at xs ys h =
     ∙ append_assoc (take at old) xs (ys ++ drop (n + length ys) old)
     ∙ ap (λ l. take at old ++ l) (sym (append_assoc xs ys (drop (n + length ys) old)))
     ∙ ap (λ k. take at old ++ ((xs ++ ys) ++ drop k old)) (add_assoc at (length xs) (length ys) ∙ ap (λ k. at + k) (sym (length-append xs ys)))
-
--- a field, right behind what is put already
-pub put_field : (old : List ℕ) (at : ℕ) (xs : List ℕ) {now next : List ℕ} {n : ℕ} {field ys : List ℕ}
-    → at ≤ length old → now ≡ put old at xs → n ≡ at + length xs → next ≡ put now n field → field ≡ ys → next ≡ put old at (xs ++ ys)
-put_field old at xs {ys = ys} h p e q r = q ∙ (λ i. put (p i) (e i) (r i)) ∙ put_put old at xs ys h
 
 -- one row, and then those after it
 pub put_row : (out : List ℕ) (at : ℕ) (rs : List Row) (i : ℕ) (z : Row) → i < length rs → at ≤ length out

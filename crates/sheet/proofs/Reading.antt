@@ -1,14 +1,54 @@
 -- How the readers' steps follow what the sheet says.
-use Rattle.std.proofs.Common.{◌≡◌, ℕ, suc, ◌+◌, ◌-◌, ◌<◌, ◌≤◌, Bool, cond, eqb, List, [], ◌∷◌, ◌++◌, length, take, drop, Ok, Err, Result, sym, refl, ap, ◌∙◌, subst, append_assoc, append-nil, arith, le-ltb, lt-ltb, eq-eqb, ne_eqb}
-use Rattle.std.proofs.lemmas.List.{take_rest}
+use Rattle.std.proofs.Common.{◌≡◌, ℕ, suc, ◌+◌, ◌-◌, ◌<◌, ◌≤◌, Bool, true, false, Some, None, cond, unwrap_or, eqb, List, [], ◌∷◌, ◌++◌, length, take, drop, Ok, Err, Result, sym, refl, ap, ◌∙◌, subst, append_assoc, arith, le-ltb, lt-ltb, eq-eqb, ne_eqb}
+use Rattle.std.specs.List.{list_all}
+use Rattle.std.proofs.lemmas.List.{length-take-le}
+use Rattle.std.proofs.lemmas.Bool.{cond-true, cond-false}
 use Rattle.std.proofs.lemmas.Bool.Decides.{nat_tests}
+use Rattle.periods.specs.Periods.{named, no_entry}
 use Rattle.sheet.specs.declared.row.Row.{Row}
 use Rattle.sheet.specs.declared.fault.Fault.{Fault}
-use Rattle.sheet.specs.declared.fault.Fault.TheVariants.{Short, RowCount, Header, Length}
+use Rattle.sheet.specs.declared.fault.Rule.{Rule}
+use Rattle.sheet.specs.declared.fault.Rule.TheVariants.{Text, Code}
+use Rattle.sheet.specs.declared.fault.Fault.TheVariants.{Short, RowCount, Header, Length, Broken}
 use Rattle.sheet.specs.declared.table.Table.{Table}
-use Rattle.sheet.specs.Sheet.{two_at, sheet_size}
-use Rattle.sheet.specs.Reading.{then, header_stands, bad_count, read_row, read_rows, read_header, read_sheet, Reads}
+use Rattle.sheet.specs.Sheet.{two_at, four_at, sheet_size}
+use Rattle.sheet.specs.Rows.{broken, lawful_label, printable}
+use Rattle.sheet.proofs.Named.{no_name}
+use Rattle.sheet.specs.Reading.{row_in, closed, judged, then, header_stands, bad_count, read_row, read_rows, read_header, read_sheet, Reads}
 use Rattle.sheet.specs.Tables.{rows_of}
+
+-- a row in its bytes
+module _ (k before : ℕ) (bs : List ℕ) where
+  pub row_unclosed : closed bs ≡ false → read_row k before bs ≡ Err (Broken Text k)
+  unfolding read_row
+  row_unclosed e = cond-false _ _ _ e
+
+  pub row_breaks : (rule : Rule) → closed bs ≡ true → broken before (row_in bs) ≡ Some rule → read_row k before bs ≡ Err (Broken rule k)
+  unfolding read_row
+  row_breaks rule e f = cond-true _ _ _ e ∙ ap (judged k (row_in bs)) f
+
+  pub row_keeps : closed bs ≡ true → broken before (row_in bs) ≡ None → read_row k before bs ≡ Ok (row_in bs)
+  unfolding read_row
+  row_keeps e f = cond-true _ _ _ e ∙ ap (judged k (row_in bs)) f
+
+  -- the first two rules, at the label and at the code
+  pub row_text : closed bs ≡ true → list_all printable (take 8 bs) ≡ false → read_row k before bs ≡ Err (Broken Text k)
+  row_text e f = row_breaks Text e (let bad : lawful_label (take 8 bs) ≡ false = grind (arith, nat_tests) in grind (arith, nat_tests))
+
+  pub row_code : closed bs ≡ true → length bs ≡ 28 → list_all printable (take 8 bs) ≡ true → named (two_at bs 24) ≡ None → read_row k before bs ≡ Err (Broken Code k)
+  row_code e long f none =
+      let eight : length (take 8 bs) ≡ 8 = length-take-le 8 bs (omega arith) in
+      let label : lawful_label (take 8 bs) ≡ true = grind (arith, nat_tests) in
+      let entry : no_entry (two_at bs 24) ≡ true = no_name (two_at bs 24) none in
+      row_breaks Code e (grind (arith, nat_tests))
+
+  -- the code's row, whose period is the one that the code names
+  pub row_is : {label : List ℕ} {phase period code execution deadline hold : ℕ} → label ≡ take 8 bs → phase ≡ four_at bs 8 → named code ≡ Some period → code ≡ two_at bs 24
+      → execution ≡ four_at bs 12 → deadline ≡ four_at bs 16 → hold ≡ four_at bs 20
+      → record { label = label; phase = phase; period = period; code = code; execution = execution; deadline = deadline; hold = hold } ≡ row_in bs
+  row_is l p q c e d h =
+      let right : _ ≡ unwrap_or (named (two_at bs 24)) 0 = ap (λ o. unwrap_or o 0) (sym q) ∙ ap (λ n. unwrap_or (named n) 0) c in
+      λ i. record { label = l i; phase = p i; period = right i; code = c i; execution = e i; deadline = d i; hold = h i }
 
 -- the ways before the rows
 pub short : (bs : List ℕ) → length bs < 16 → read_sheet bs ≡ Err Short
@@ -41,10 +81,6 @@ header_count bs n e = count_by (two_at bs 0) n (header_stands bs) e
     count_by : (m n : ℕ) (b : Bool) → cond (bad_count m) (Err RowCount) (cond b (Ok m) (Err Header)) ≡ Ok n → (1 ≤ n) × (n ≤ 32)
     count_by m n b e = grind (arith, nat_tests)
 
--- a row that is read from the bytes from place i on
-pub row_cut : (k before : ℕ) (bs : List ℕ) (i : ℕ) {x : Result Row Fault} → x ≡ read_row k before (take (length bs - i) (drop i bs)) → read_row k before (drop i bs) ≡ x
-row_cut k before bs i e = ap (read_row k before) (sym (take_rest bs i)) ∙ sym e
-
 -- what comes of the rows in `front` before those that are still to be read
 abbrev pub ahead : List Row → Result (List Row) Fault → Result (List Row) Fault
 ahead front r = then r (λ rs. Ok (front ++ rs))
@@ -75,10 +111,6 @@ module _ (whole : Result (List Row) Fault) (front : List Row) (n k before : ℕ)
   pub row_stands : (r : Row) → read_row (k + 1) before rest ≡ Ok r → whole ≡ ahead (front ++ r ∷ []) (read_rows (n - (k + 1)) (k + 1 + 1) r.deadline (drop 28 rest))
   unfolding turn
   row_stands r e = turned ∙ ap turn e ∙ ahead_more front r _
-
-pub all_read : (whole : Result (List Row) Fault) (front : List Row) (n k before : ℕ) (rest : List ℕ) → n ≤ k → whole ≡ ahead front (read_rows (n - k) (k + 1) before rest) → whole ≡ Ok front
-all_read whole front n k before rest h inv =
-    let e : n - k ≡ 0 = omega arith in inv ∙ ap (λ m. ahead front (read_rows m (k + 1) before rest)) e ∙ ap Ok (append-nil front)
 
 -- what a call of `read` owes at its ends
 pub refuses : {s : Result (List Row) Fault} {r : Result Unit Fault} {old new : Table} (f : Fault) → s ≡ Err f → r ≡ Err f → new ≡ old → Reads s r old new

@@ -1,5 +1,5 @@
 -- The sheet of lawful rows says those rows.
-use Rattle.std.proofs.Common.{◌≡◌, ℕ, zero, suc, ◌+◌, ◌*◌, ◌/◌, ◌%◌, ◌<◌, ◌≤◌, true, cond, eqb, List, [], ◌∷◌, ◌++◌, length, get_or, take, drop, Some, None, Ok, Err, Option, sym, refl, ap, ◌∙◌, arith, drop-cons, eqb-true}
+use Rattle.std.proofs.Common.{unwrap_or, ◌≡◌, ℕ, zero, suc, ◌+◌, ◌*◌, ◌/◌, ◌%◌, ◌<◌, ◌≤◌, true, cond, eqb, List, [], ◌∷◌, ◌++◌, length, get_or, take, drop, Some, None, Ok, Err, Option, sym, refl, ap, ◌∙◌, arith, drop-cons, eqb-true}
 use Rattle.std.proofs.lemmas.List.{drop_at, take_all}
 use Rattle.std.proofs.lemmas.Bool.{and_parts}
 use Rattle.std.proofs.lemmas.Bool.Decides.{nat_tests}
@@ -9,7 +9,7 @@ use Rattle.sheet.specs.declared.fault.Rule.{Rule}
 use Rattle.sheet.specs.declared.fault.Fault.TheVariants.{RowCount, Header}
 use Rattle.sheet.specs.Rows.{broken, intact, lawful_row, lawful_after}
 use Rattle.sheet.specs.Sheet.{eight_bytes, header_bytes, row_bytes, rows_bytes, sheet_size, sheet_of}
-use Rattle.sheet.specs.Reading.{or_zero, row_in, judged, read_row, then, read_rows, bad_count, read_header}
+use Rattle.sheet.specs.Reading.{row_in, judged, read_row, then, read_rows, bad_count, read_header}
 use Rattle.sheet.specs.Laws.{ReadsBack}
 use Rattle.sheet.proofs.Sizes.{length_row, length_header, length_sheet}
 use Rattle.sheet.proofs.Named.{entry_within, entry_named}
@@ -20,7 +20,7 @@ use Rattle.sheet.proofs.Accepted.{intact_entry}
 record Fitting (r : Row) : Type 0 where
   label : length r.label ≡ 8
   phase : r.phase < 4294967296
-  period : or_zero (named r.code) ≡ r.period
+  period : unwrap_or (named r.code) 0 ≡ r.period
   code : r.code < 65536
   execution : r.execution < 4294967296
   deadline : r.deadline < 4294967296
@@ -76,7 +76,7 @@ row_back : (r : Row) (more : List ℕ) → Fitting r → row_in (row_bytes r ++ 
 unfolding row_bytes
 row_back r more s =
     let code = two_back r.code s.code in
-    let period = ap (λ n. or_zero (named n)) code ∙ s.period in
+    let period = ap (λ n. unwrap_or (named n) 0) code ∙ s.period in
     λ i. record {
       label = eight_back r.label s.label i;
       phase = four_back r.phase s.phase i;

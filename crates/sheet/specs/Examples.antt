@@ -1,5 +1,5 @@
 -- Sheets and faults by example, which the checker computes.
-use Rattle.std.specs.Prelude.{◌≡◌, ℕ, List, [], ◌∷◌, map, replicate, Ok, Err, Result}
+use Rattle.std.specs.Prelude.{◌≡◌, ℕ, List, [], ◌∷◌, map, replicate, Some, None, Ok, Err, Result}
 use Rattle.periods.specs.Periods.{period_of}
 use Rattle.sheet.specs.declared.row.Row.{Row}
 use Rattle.sheet.specs.declared.fault.Rule.TheVariants.{Text, Code, Deadline, Phase, Execution, Hold}
@@ -10,7 +10,7 @@ use Rattle.sheet.specs.Rows.{blank}
 use Rattle.sheet.specs.Sheet.{header_bytes, sheet_of}
 use Rattle.sheet.specs.Reading.{read_sheet}
 use Rattle.sheet.specs.Writing.{put, Writes}
-use Rattle.sheet.specs.Faults.{number_of, layer_of, row_of_fault, refusal_number}
+use Rattle.sheet.specs.Faults.{number_of, layer_of, layer_number, row_of_fault, refusal_number}
 
 -- a row whose label is that byte and seven spaces
 abbrev pub row_with : (byte phase code execution deadline hold : ℕ) → Row
@@ -69,8 +69,8 @@ all_faults =
 -- their numbers, layers and rows
 pub record Numbered : Type 0 where
   pub numbers : map number_of all_faults ≡ 1 ∷ 2 ∷ 3 ∷ 4 ∷ 5 ∷ 6 ∷ 7 ∷ 8 ∷ 9 ∷ 10 ∷ []
-  pub layers : map layer_of all_faults ≡ 1 ∷ 2 ∷ 2 ∷ 1 ∷ 3 ∷ 3 ∷ 3 ∷ 3 ∷ 3 ∷ 3 ∷ []
-  pub rows : map row_of_fault all_faults ≡ 0 ∷ 0 ∷ 0 ∷ 0 ∷ 7 ∷ 7 ∷ 7 ∷ 7 ∷ 7 ∷ 7 ∷ []
+  pub layers : map (λ f. layer_number (layer_of f)) all_faults ≡ 1 ∷ 2 ∷ 2 ∷ 1 ∷ 3 ∷ 3 ∷ 3 ∷ 3 ∷ 3 ∷ 3 ∷ []
+  pub rows : map row_of_fault all_faults ≡ None ∷ None ∷ None ∷ None ∷ Some 7 ∷ Some 7 ∷ Some 7 ∷ Some 7 ∷ Some 7 ∷ Some 7 ∷ []
   pub writing : refusal_number ShortBuffer ≡ 11
 
 -- two bytes written into buffers of three, of two and of one

@@ -1,5 +1,5 @@
 -- What a sheet says: its rows, or the first fault in the order of the tests.
-use Rattle.std.specs.Prelude.{◌≡◌, ℕ, zero, suc, ◌+◌, ◌≤◌, Bool, cond, ◌&&◌, ◌||◌, List, [], ◌∷◌, length, take, drop, Some, None, Ok, Err, Option, Result, ◌==◌, nat_lt, slice_index, slice_index_or}
+use Rattle.std.specs.Prelude.{◌≡◌, ℕ, zero, suc, ◌+◌, ◌≤◌, Bool, cond, ◌&&◌, ◌||◌, List, [], ◌∷◌, length, take, drop, Some, None, Ok, Err, Option, Result, ◌==◌, nat_lt, slice_index, slice_index_or, unwrap_or}
 use Rattle.periods.specs.Periods.{cycle, named}
 use Rattle.sheet.specs.declared.row.Row.{Row}
 use Rattle.sheet.specs.declared.fault.Rule.{Rule}
@@ -11,17 +11,12 @@ use Rattle.sheet.specs.Rows.{blank, broken}
 use Rattle.sheet.specs.Sheet.{two_at, four_at, sheet_size}
 use Rattle.sheet.specs.Tables.{rows_of}
 
--- a period, or 0 where the code names none
-abbrev pub or_zero : Option ℕ → ℕ
-or_zero None = 0
-or_zero (Some p) = p
-
--- the row in 28 bytes, lawful or not
+-- the row in 28 bytes, lawful or not; its period is 0 where its code names none
 abbrev pub row_in : List ℕ → Row
 row_in bs = record {
   label = take 8 bs;
   phase = four_at bs 8;
-  period = or_zero (named (two_at bs 24));
+  period = unwrap_or (named (two_at bs 24)) 0;
   code = two_at bs 24;
   execution = four_at bs 12;
   deadline = four_at bs 16;

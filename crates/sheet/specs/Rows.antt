@@ -1,5 +1,6 @@
 -- The rows of a table, and the rules that they keep.
 use Rattle.std.specs.Prelude.{ℕ, ◌*◌, Bool, true, false, cond, not, ◌&&◌, ◌||◌, List, [], ◌∷◌, length, replicate, Some, None, Option, ◌==◌, nat_le, nat_lt}
+use Rattle.std.specs.List.{list_all}
 use Rattle.periods.specs.Periods.{cycle, no_entry, period_of}
 use Rattle.sheet.specs.declared.row.Row.{Row}
 use Rattle.sheet.specs.declared.fault.Rule.{Rule}
@@ -17,14 +18,9 @@ units r = r.execution
 abbrev pub printable : ℕ → Bool
 printable b = nat_le 32 b && nat_le b 126
 
--- each byte is a printable character
-abbrev pub all_printable : List ℕ → Bool
-all_printable [] = true
-all_printable (b ∷ bs) = printable b && all_printable bs
-
 -- a label is eight printable characters
 abbrev pub lawful_label : List ℕ → Bool
-lawful_label l = length l == 8 && all_printable l
+lawful_label l = length l == 8 && list_all printable l
 
 -- the deadline is 0, above four periods, or below the deadline of the row before
 abbrev pub bad_deadline : ℕ → Row → Bool

@@ -1,25 +1,51 @@
 // What is wrong with a sheet.
 ghost use Rattle.std.specs.Prelude.{◌≡◌};
-ghost use Rattle.sheet.specs.Faults.{rule_number, number_of, layer_of, row_of_fault};
+ghost use Rattle.sheet.specs.Faults.{rule_number, layer_number, number_of, layer_of, row_of_fault};
 
-// The rules of a row, in the order in which they are tried.
-#[derive(Clone, Copy)]
+// The rules of a row, in the order in which they are tried, each with the number of the fault that its breach is.
+#[derive(Clone, Copy, Debug, PartialEq, Eq)]
 pub enum Rule {
     // eight printable characters, and two closing bytes of 0
-    Text,
+    Text = 5,
     // the code names a period of the list
-    Code,
+    Code = 6,
     // the deadline is 1 to four periods, and not below that of the row before
-    Deadline,
+    Deadline = 7,
     // the phase is at most the cycle
-    Phase,
+    Phase = 8,
     // the execution is 1 to the smaller of period and deadline
-    Execution,
+    Execution = 9,
     // the hold is at most the execution
-    Hold,
+    Hold = 10,
 }
 
-#[derive(Clone, Copy)]
+impl Rule {
+    // The number of the fault that a broken rule is.
+    fn number(self) -> u32
+        ensures { result ≡ rule_number self }
+    {
+        self as u32
+    }
+}
+
+// The readers of a sheet, each of which calls the next.
+#[derive(Clone, Copy, Debug, PartialEq, Eq)]
+pub enum Layer {
+    Bytes = 1,
+    Header = 2,
+    Row = 3,
+}
+
+impl Layer {
+    // The layer's number in logs and documents.
+    pub fn number(self) -> u32
+        ensures { result ≡ layer_number self }
+    {
+        self as u32
+    }
+}
+
+#[derive(Clone, Copy, Debug, PartialEq, Eq)]
 pub enum Fault {
     // fewer bytes than a header has
     Short,
@@ -31,22 +57,6 @@ pub enum Fault {
     Length,
     // a row, counted from 1, breaks a rule
     Broken { rule: Rule, row: u32 },
-}
-
-impl Rule {
-    // The number of the fault that a broken rule is.
-    fn number(self) -> u32
-        ensures { result ≡ rule_number self }
-    {
-        match self {
-            Rule::Text => 5,
-            Rule::Code => 6,
-            Rule::Deadline => 7,
-            Rule::Phase => 8,
-            Rule::Execution => 9,
-            Rule::Hold => 10,
-        }
-    }
 }
 
 impl Fault {
@@ -63,24 +73,24 @@ impl Fault {
         }
     }
 
-    // The reader that found it: 1 of the bytes, 2 of the header, 3 of a row.
-    pub fn layer(self) -> u32
+    // The reader that found it.
+    pub fn layer(self) -> Layer
         ensures { result ≡ layer_of self }
     {
         match self {
-            Fault::Short | Fault::Length => 1,
-            Fault::RowCount | Fault::Header => 2,
-            Fault::Broken { .. } => 3,
+            Fault::Short | Fault::Length => Layer::Bytes,
+            Fault::RowCount | Fault::Header => Layer::Header,
+            Fault::Broken { .. } => Layer::Row,
         }
     }
 
-    // The row that breaks a rule, counted from 1; 0 where the fault is of no row.
-    pub fn row(self) -> u32
+    // The row that breaks a rule, counted from 1, where the fault is of a row.
+    pub fn row(self) -> Option<u32>
         ensures { result ≡ row_of_fault self }
     {
         match self {
-            Fault::Broken { row, .. } => row,
-            _ => 0,
+            Fault::Broken { row, .. } => Some(row),
+            _ => None,
         }
     }
 }

@@ -3,11 +3,12 @@ ghost use Rattle.std.specs.Prelude.{◌≡◌, [], ◌∷◌};
 ghost use Rattle.sheet.specs.Rows.{blank};
 ghost use Rattle.sheet.specs.Tables.{rows_of};
 
+use crate::layout::MOST_ROWS;
 use crate::row::Row;
 use crate::table::Table;
 
-// The slots of a new table. As a reference they are copied in one go, where `[Row::BLANK; 32]` would be 160 writes.
-const BLANKS: &[Row; 32] = &[Row::BLANK; 32];
+// Slots that are all blank. As a reference they are copied in one go, where `[Row::BLANK; MOST_ROWS]` would be 160 writes.
+pub(crate) const BLANKS: &[Row; MOST_ROWS] = &[Row::BLANK; MOST_ROWS];
 
 impl Table {
     // A new table: one blank row.
@@ -24,6 +25,6 @@ impl Table {
     pub fn rows(&self) -> &[Row]
         ensures { result.now ≡ rows_of self.now }
     {
-        &self.slots[0..self.count]
+        &self.slots[..self.count]
     }
 }

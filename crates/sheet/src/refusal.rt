@@ -2,10 +2,11 @@
 ghost use Rattle.std.specs.Prelude.{◌≡◌};
 ghost use Rattle.sheet.specs.Faults.{refusal_number};
 
-#[derive(Clone, Copy)]
+// A type beside the log's refusal of a short buffer: a signature then says what is not written, and each has its own number.
+#[derive(Clone, Copy, Debug, PartialEq, Eq)]
 pub enum WriteRefusal {
     // the buffer is shorter than the sheet
-    ShortBuffer,
+    ShortBuffer = 11,
 }
 
 impl WriteRefusal {
@@ -13,8 +14,6 @@ impl WriteRefusal {
     pub fn number(self) -> u32
         ensures { result ≡ refusal_number self }
     {
-        match self {
-            WriteRefusal::ShortBuffer => 11,
-        }
+        self as u32
     }
 }

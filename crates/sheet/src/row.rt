@@ -1,5 +1,5 @@
 // A row of a table: one periodic task.
-#[derive(Clone, Copy)]
+#[derive(Clone, Copy, Debug, PartialEq, Eq)]
 pub struct Row {
     // eight printable characters
     pub label: [u8; 8],

@@ -2,12 +2,14 @@
 ghost use Rattle.std.specs.Prelude.{◌≡◌, ℕ, ◌≤◌, true, length, take, slice_index_or};
 ghost use Rattle.sheet.specs.Rows.{blank, lawful_after};
 
+use crate::layout::MOST_ROWS;
 use crate::row::Row;
 
-// It moves and is never copied. Slots past the count are blank, so that equal rows make equal tables.
+// It moves and is never copied. Its rows lie in slots with a count beside them, since its memory is fixed: no heap.
+// Slots past the count are blank, so that equal rows make equal tables.
 #[derive(Drop)]
 pub struct Table {
-    pub(crate) slots: [Row; 32],
+    pub(crate) slots: [Row; MOST_ROWS],
     pub(crate) count: usize,
     ghost some: { 1 ≤ count },
     ghost few: { count ≤ 32 },

@@ -20,43 +20,43 @@ fn copy_at(out: &mut [u8], at: usize, bytes: &[u8])
     out[at..end].copy_from_slice(bytes);
 }
 
-// Writes the header of a sheet of `count` rows.
-fn write_header(out: &mut [u8], count: usize)
-    requires few { count ≤ 32 }
-    requires room { 16 ≤ length out.old }
-    ensures { out.new ≡ put out.old 0 (header_bytes count) }
+// The header of a sheet of `count` rows.
+fn header_bytes(count: usize) -> [u8; HEADER_BYTES]
+    requires { count ≤ 32 }
+    ensures { result ≡ header_bytes count }
 {
-    copy_at(out, 0, &(count as u16).to_be_bytes());
-    copy_at(out, 2, &(HEADER_BYTES as u16).to_be_bytes());
-    // no handlers
-    copy_at(out, 4, &[0; 4]);
-    copy_at(out, 8, &CYCLE.to_be_bytes());
-    copy_at(out, 12, &(sheet_size(count) as u32).to_be_bytes());
+    // bytes 4 to 7 stay 0: there are no handlers
+    let mut bytes = [0; HEADER_BYTES];
+    copy_at(&mut bytes, 0, &(count as u16).to_be_bytes());
+    copy_at(&mut bytes, 2, &(HEADER_BYTES as u16).to_be_bytes());
+    copy_at(&mut bytes, 8, &CYCLE.to_be_bytes());
+    copy_at(&mut bytes, 12, &(sheet_size(count) as u32).to_be_bytes());
+    bytes
 }
 
-// Writes a row from `at` on.
-fn write_row(out: &mut [u8], at: usize, row: &Row)
-    requires { at + 28 ≤ length out.old }
-    ensures { out.new ≡ put out.old at (row_bytes row.now) }
+// A row's bytes in a sheet.
+fn row_bytes(row: &Row) -> [u8; ROW_BYTES]
+    ensures { result ≡ row_bytes row.now }
 {
-    copy_at(out, at, &row.label);
-    copy_at(out, at + 8, &row.phase.to_be_bytes());
-    copy_at(out, at + 12, &row.execution.to_be_bytes());
-    copy_at(out, at + 16, &row.deadline.to_be_bytes());
-    copy_at(out, at + 20, &row.hold.to_be_bytes());
-    copy_at(out, at + 24, &row.code.to_be_bytes());
-    copy_at(out, at + 26, &[0; 2]);
+    // the last two bytes stay 0
+    let mut bytes = [0; ROW_BYTES];
+    copy_at(&mut bytes, 0, &row.label);
+    copy_at(&mut bytes, 8, &row.phase.to_be_bytes());
+    copy_at(&mut bytes, 12, &row.execution.to_be_bytes());
+    copy_at(&mut bytes, 16, &row.deadline.to_be_bytes());
+    copy_at(&mut bytes, 20, &row.hold.to_be_bytes());
+    copy_at(&mut bytes, 24, &row.code.to_be_bytes());
+    bytes
 }
 
 // Writes the rows behind the header.
 fn write_rows(out: &mut [u8], rows: &[Row])
-    requires { 16 + 28 * length rows.now ≤ length out.old }
+    requires few { length rows.now ≤ 32 }
+    requires room { 16 + 28 * length rows.now ≤ length out.old }
     ensures { out.new ≡ put out.old 16 (rows_bytes rows.now) }
 {
-    let mut at = HEADER_BYTES;
-    for row in rows {
-        write_row(out, at, row);
-        at += ROW_BYTES;
+    for (k, row) in rows.iter().enumerate() {
+        copy_at(out, sheet_size(k), &row_bytes(row));
     }
 }
 
@@ -70,7 +70,7 @@ impl Table {
         if out.len() < size {
             return Err(WriteRefusal::ShortBuffer);
         }
-        write_header(out, self.count);
+        copy_at(out, 0, &header_bytes(self.count));
         write_rows(out, self.rows());
         Ok(size)
     }

@@ -1,20 +1,22 @@
 // Changes to a sheet of two rows, and what reading answers.
+use Number::{Byte, Four, Two};
 
-// A big-endian number of some bytes, put in at a place.
+// A number put into a sheet, its highest byte first.
 #[derive(Clone, Copy)]
-pub struct Patch {
-    pub at: u8,
-    pub width: u8,
-    pub value: u32,
+pub enum Number {
+    Byte(u8),
+    Two(u16),
+    Four(u32),
 }
 
-// The first bytes of the sheet with two changes, and the fault's number, layer and row; three zeros where it is accepted.
-#[derive(Clone, Copy)]
-pub struct Case {
-    pub length: u8,
-    pub patches: [Patch; 2],
-    pub answer: (u32, u32, u32),
-}
+// A number and its place.
+pub type Change = (usize, Number);
+
+// Accepted, or the fault's number, layer and row.
+pub type Answer = Result<(), (u32, u32, Option<u32>)>;
+
+// How many of the first bytes of the sheet, with which changes, and what reading them answers.
+pub type Case = (usize, &'static [Change], Answer);
 
 // Rows (F, P, E, D, H) = (0, 4, 1, 3, 0) and (2, 6, 3, 6, 1), and a byte that is not part of the sheet.
 pub const SHEET: [u8; 73] = [
@@ -25,853 +27,111 @@ pub const SHEET: [u8; 73] = [
 
 pub const CASES: [Case; 50] = [
     // the example sheet
-    Case {
-        length: 72,
-        patches: [
-            Patch {
-                at: 0,
-                width: 0,
-                value: 0,
-            },
-            Patch {
-                at: 0,
-                width: 0,
-                value: 0,
-            },
-        ],
-        answer: (0, 0, 0),
-    },
+    (72, &[], Ok(())),
     // no bytes
-    Case {
-        length: 0,
-        patches: [
-            Patch {
-                at: 0,
-                width: 0,
-                value: 0,
-            },
-            Patch {
-                at: 0,
-                width: 0,
-                value: 0,
-            },
-        ],
-        answer: (1, 1, 0),
-    },
+    (0, &[], Err((1, 1, None))),
     // 15 bytes
-    Case {
-        length: 15,
-        patches: [
-            Patch {
-                at: 0,
-                width: 0,
-                value: 0,
-            },
-            Patch {
-                at: 0,
-                width: 0,
-                value: 0,
-            },
-        ],
-        answer: (1, 1, 0),
-    },
+    (15, &[], Err((1, 1, None))),
     // 16 bytes: a header alone
-    Case {
-        length: 16,
-        patches: [
-            Patch {
-                at: 0,
-                width: 0,
-                value: 0,
-            },
-            Patch {
-                at: 0,
-                width: 0,
-                value: 0,
-            },
-        ],
-        answer: (4, 1, 0),
-    },
+    (16, &[], Err((4, 1, None))),
     // no rows
-    Case {
-        length: 72,
-        patches: [
-            Patch {
-                at: 0,
-                width: 2,
-                value: 0,
-            },
-            Patch {
-                at: 0,
-                width: 0,
-                value: 0,
-            },
-        ],
-        answer: (2, 2, 0),
-    },
+    (72, &[(0, Two(0))], Err((2, 2, None))),
     // 33 rows
-    Case {
-        length: 72,
-        patches: [
-            Patch {
-                at: 0,
-                width: 2,
-                value: 33,
-            },
-            Patch {
-                at: 0,
-                width: 0,
-                value: 0,
-            },
-        ],
-        answer: (2, 2, 0),
-    },
+    (72, &[(0, Two(33))], Err((2, 2, None))),
     // 32 rows, but the length of two
-    Case {
-        length: 72,
-        patches: [
-            Patch {
-                at: 0,
-                width: 2,
-                value: 32,
-            },
-            Patch {
-                at: 0,
-                width: 0,
-                value: 0,
-            },
-        ],
-        answer: (3, 2, 0),
-    },
+    (72, &[(0, Two(32))], Err((3, 2, None))),
     // 32 rows and their length, but the bytes of two
-    Case {
-        length: 72,
-        patches: [
-            Patch {
-                at: 0,
-                width: 2,
-                value: 32,
-            },
-            Patch {
-                at: 12,
-                width: 4,
-                value: 912,
-            },
-        ],
-        answer: (4, 1, 0),
-    },
+    (72, &[(0, Two(32)), (12, Four(912))], Err((4, 1, None))),
     // row offset 17
-    Case {
-        length: 72,
-        patches: [
-            Patch {
-                at: 2,
-                width: 2,
-                value: 17,
-            },
-            Patch {
-                at: 0,
-                width: 0,
-                value: 0,
-            },
-        ],
-        answer: (3, 2, 0),
-    },
+    (72, &[(2, Two(17))], Err((3, 2, None))),
     // handler count 1
-    Case {
-        length: 72,
-        patches: [
-            Patch {
-                at: 4,
-                width: 2,
-                value: 1,
-            },
-            Patch {
-                at: 0,
-                width: 0,
-                value: 0,
-            },
-        ],
-        answer: (3, 2, 0),
-    },
+    (72, &[(4, Two(1))], Err((3, 2, None))),
     // handler offset 1
-    Case {
-        length: 72,
-        patches: [
-            Patch {
-                at: 6,
-                width: 2,
-                value: 1,
-            },
-            Patch {
-                at: 0,
-                width: 0,
-                value: 0,
-            },
-        ],
-        answer: (3, 2, 0),
-    },
+    (72, &[(6, Two(1))], Err((3, 2, None))),
     // cycle 720,721
-    Case {
-        length: 72,
-        patches: [
-            Patch {
-                at: 8,
-                width: 4,
-                value: 720721,
-            },
-            Patch {
-                at: 0,
-                width: 0,
-                value: 0,
-            },
-        ],
-        answer: (3, 2, 0),
-    },
+    (72, &[(8, Four(720_721))], Err((3, 2, None))),
     // length 71 told
-    Case {
-        length: 72,
-        patches: [
-            Patch {
-                at: 12,
-                width: 4,
-                value: 71,
-            },
-            Patch {
-                at: 0,
-                width: 0,
-                value: 0,
-            },
-        ],
-        answer: (3, 2, 0),
-    },
+    (72, &[(12, Four(71))], Err((3, 2, None))),
     // 71 bytes
-    Case {
-        length: 71,
-        patches: [
-            Patch {
-                at: 0,
-                width: 0,
-                value: 0,
-            },
-            Patch {
-                at: 0,
-                width: 0,
-                value: 0,
-            },
-        ],
-        answer: (4, 1, 0),
-    },
+    (71, &[], Err((4, 1, None))),
     // 73 bytes
-    Case {
-        length: 73,
-        patches: [
-            Patch {
-                at: 0,
-                width: 0,
-                value: 0,
-            },
-            Patch {
-                at: 0,
-                width: 0,
-                value: 0,
-            },
-        ],
-        answer: (4, 1, 0),
-    },
+    (73, &[], Err((4, 1, None))),
     // one row and its length
-    Case {
-        length: 44,
-        patches: [
-            Patch {
-                at: 0,
-                width: 2,
-                value: 1,
-            },
-            Patch {
-                at: 12,
-                width: 4,
-                value: 44,
-            },
-        ],
-        answer: (0, 0, 0),
-    },
+    (44, &[(0, Two(1)), (12, Four(44))], Ok(())),
     // label byte 31
-    Case {
-        length: 72,
-        patches: [
-            Patch {
-                at: 16,
-                width: 1,
-                value: 31,
-            },
-            Patch {
-                at: 0,
-                width: 0,
-                value: 0,
-            },
-        ],
-        answer: (5, 3, 1),
-    },
+    (72, &[(16, Byte(31))], Err((5, 3, Some(1)))),
     // label byte 32
-    Case {
-        length: 72,
-        patches: [
-            Patch {
-                at: 16,
-                width: 1,
-                value: 32,
-            },
-            Patch {
-                at: 0,
-                width: 0,
-                value: 0,
-            },
-        ],
-        answer: (0, 0, 0),
-    },
+    (72, &[(16, Byte(32))], Ok(())),
     // label byte 126
-    Case {
-        length: 72,
-        patches: [
-            Patch {
-                at: 23,
-                width: 1,
-                value: 126,
-            },
-            Patch {
-                at: 0,
-                width: 0,
-                value: 0,
-            },
-        ],
-        answer: (0, 0, 0),
-    },
+    (72, &[(23, Byte(126))], Ok(())),
     // label byte 127
-    Case {
-        length: 72,
-        patches: [
-            Patch {
-                at: 23,
-                width: 1,
-                value: 127,
-            },
-            Patch {
-                at: 0,
-                width: 0,
-                value: 0,
-            },
-        ],
-        answer: (5, 3, 1),
-    },
+    (72, &[(23, Byte(127))], Err((5, 3, Some(1)))),
     // first closing byte 1
-    Case {
-        length: 72,
-        patches: [
-            Patch {
-                at: 70,
-                width: 1,
-                value: 1,
-            },
-            Patch {
-                at: 0,
-                width: 0,
-                value: 0,
-            },
-        ],
-        answer: (5, 3, 2),
-    },
+    (72, &[(70, Byte(1))], Err((5, 3, Some(2)))),
     // second closing byte 1
-    Case {
-        length: 72,
-        patches: [
-            Patch {
-                at: 71,
-                width: 1,
-                value: 1,
-            },
-            Patch {
-                at: 0,
-                width: 0,
-                value: 0,
-            },
-        ],
-        answer: (5, 3, 2),
-    },
+    (72, &[(71, Byte(1))], Err((5, 3, Some(2)))),
     // code 0
-    Case {
-        length: 72,
-        patches: [
-            Patch {
-                at: 40,
-                width: 2,
-                value: 0,
-            },
-            Patch {
-                at: 0,
-                width: 0,
-                value: 0,
-            },
-        ],
-        answer: (6, 3, 1),
-    },
+    (72, &[(40, Two(0))], Err((6, 3, Some(1)))),
     // code 240
-    Case {
-        length: 72,
-        patches: [
-            Patch {
-                at: 68,
-                width: 2,
-                value: 240,
-            },
-            Patch {
-                at: 0,
-                width: 0,
-                value: 0,
-            },
-        ],
-        answer: (0, 0, 0),
-    },
+    (72, &[(68, Two(240))], Ok(())),
     // code 241
-    Case {
-        length: 72,
-        patches: [
-            Patch {
-                at: 68,
-                width: 2,
-                value: 241,
-            },
-            Patch {
-                at: 0,
-                width: 0,
-                value: 0,
-            },
-        ],
-        answer: (6, 3, 2),
-    },
+    (72, &[(68, Two(241))], Err((6, 3, Some(2)))),
     // deadline 0
-    Case {
-        length: 72,
-        patches: [
-            Patch {
-                at: 32,
-                width: 4,
-                value: 0,
-            },
-            Patch {
-                at: 0,
-                width: 0,
-                value: 0,
-            },
-        ],
-        answer: (7, 3, 1),
-    },
+    (72, &[(32, Four(0))], Err((7, 3, Some(1)))),
     // deadline 4 x P
-    Case {
-        length: 72,
-        patches: [
-            Patch {
-                at: 60,
-                width: 4,
-                value: 24,
-            },
-            Patch {
-                at: 0,
-                width: 0,
-                value: 0,
-            },
-        ],
-        answer: (0, 0, 0),
-    },
+    (72, &[(60, Four(24))], Ok(())),
     // deadline above 4 x P
-    Case {
-        length: 72,
-        patches: [
-            Patch {
-                at: 60,
-                width: 4,
-                value: 25,
-            },
-            Patch {
-                at: 0,
-                width: 0,
-                value: 0,
-            },
-        ],
-        answer: (7, 3, 2),
-    },
+    (72, &[(60, Four(25))], Err((7, 3, Some(2)))),
     // deadline of the row before
-    Case {
-        length: 72,
-        patches: [
-            Patch {
-                at: 60,
-                width: 4,
-                value: 3,
-            },
-            Patch {
-                at: 0,
-                width: 0,
-                value: 0,
-            },
-        ],
-        answer: (0, 0, 0),
-    },
+    (72, &[(60, Four(3))], Ok(())),
     // deadline below the row before
-    Case {
-        length: 72,
-        patches: [
-            Patch {
-                at: 60,
-                width: 4,
-                value: 2,
-            },
-            Patch {
-                at: 0,
-                width: 0,
-                value: 0,
-            },
-        ],
-        answer: (7, 3, 2),
-    },
+    (72, &[(60, Four(2))], Err((7, 3, Some(2)))),
     // phase 720,720
-    Case {
-        length: 72,
-        patches: [
-            Patch {
-                at: 24,
-                width: 4,
-                value: 720720,
-            },
-            Patch {
-                at: 0,
-                width: 0,
-                value: 0,
-            },
-        ],
-        answer: (0, 0, 0),
-    },
+    (72, &[(24, Four(720_720))], Ok(())),
     // phase 720,721
-    Case {
-        length: 72,
-        patches: [
-            Patch {
-                at: 24,
-                width: 4,
-                value: 720721,
-            },
-            Patch {
-                at: 0,
-                width: 0,
-                value: 0,
-            },
-        ],
-        answer: (8, 3, 1),
-    },
+    (72, &[(24, Four(720_721))], Err((8, 3, Some(1)))),
     // execution 0
-    Case {
-        length: 72,
-        patches: [
-            Patch {
-                at: 28,
-                width: 4,
-                value: 0,
-            },
-            Patch {
-                at: 0,
-                width: 0,
-                value: 0,
-            },
-        ],
-        answer: (9, 3, 1),
-    },
+    (72, &[(28, Four(0))], Err((9, 3, Some(1)))),
     // execution of the deadline
-    Case {
-        length: 72,
-        patches: [
-            Patch {
-                at: 28,
-                width: 4,
-                value: 3,
-            },
-            Patch {
-                at: 0,
-                width: 0,
-                value: 0,
-            },
-        ],
-        answer: (0, 0, 0),
-    },
+    (72, &[(28, Four(3))], Ok(())),
     // execution above the deadline
-    Case {
-        length: 72,
-        patches: [
-            Patch {
-                at: 28,
-                width: 4,
-                value: 4,
-            },
-            Patch {
-                at: 0,
-                width: 0,
-                value: 0,
-            },
-        ],
-        answer: (9, 3, 1),
-    },
+    (72, &[(28, Four(4))], Err((9, 3, Some(1)))),
     // execution of the period
-    Case {
-        length: 72,
-        patches: [
-            Patch {
-                at: 56,
-                width: 4,
-                value: 6,
-            },
-            Patch {
-                at: 60,
-                width: 4,
-                value: 9,
-            },
-        ],
-        answer: (0, 0, 0),
-    },
+    (72, &[(56, Four(6)), (60, Four(9))], Ok(())),
     // execution above the period
-    Case {
-        length: 72,
-        patches: [
-            Patch {
-                at: 56,
-                width: 4,
-                value: 7,
-            },
-            Patch {
-                at: 60,
-                width: 4,
-                value: 9,
-            },
-        ],
-        answer: (9, 3, 2),
-    },
+    (72, &[(56, Four(7)), (60, Four(9))], Err((9, 3, Some(2)))),
     // hold of the execution
-    Case {
-        length: 72,
-        patches: [
-            Patch {
-                at: 64,
-                width: 4,
-                value: 3,
-            },
-            Patch {
-                at: 0,
-                width: 0,
-                value: 0,
-            },
-        ],
-        answer: (0, 0, 0),
-    },
+    (72, &[(64, Four(3))], Ok(())),
     // hold above the execution
-    Case {
-        length: 72,
-        patches: [
-            Patch {
-                at: 64,
-                width: 4,
-                value: 4,
-            },
-            Patch {
-                at: 0,
-                width: 0,
-                value: 0,
-            },
-        ],
-        answer: (10, 3, 2),
-    },
+    (72, &[(64, Four(4))], Err((10, 3, Some(2)))),
     // no rows, and a wrong offset
-    Case {
-        length: 72,
-        patches: [
-            Patch {
-                at: 0,
-                width: 2,
-                value: 0,
-            },
-            Patch {
-                at: 2,
-                width: 2,
-                value: 17,
-            },
-        ],
-        answer: (2, 2, 0),
-    },
+    (72, &[(0, Two(0)), (2, Two(17))], Err((2, 2, None))),
     // a wrong offset, and too few bytes
-    Case {
-        length: 71,
-        patches: [
-            Patch {
-                at: 2,
-                width: 2,
-                value: 17,
-            },
-            Patch {
-                at: 0,
-                width: 0,
-                value: 0,
-            },
-        ],
-        answer: (3, 2, 0),
-    },
+    (71, &[(2, Two(17))], Err((3, 2, None))),
     // too few bytes, and a bad label
-    Case {
-        length: 71,
-        patches: [
-            Patch {
-                at: 16,
-                width: 1,
-                value: 31,
-            },
-            Patch {
-                at: 0,
-                width: 0,
-                value: 0,
-            },
-        ],
-        answer: (4, 1, 0),
-    },
+    (71, &[(16, Byte(31))], Err((4, 1, None))),
     // a bad label and a bad code
-    Case {
-        length: 72,
-        patches: [
-            Patch {
-                at: 16,
-                width: 1,
-                value: 31,
-            },
-            Patch {
-                at: 40,
-                width: 2,
-                value: 241,
-            },
-        ],
-        answer: (5, 3, 1),
-    },
+    (72, &[(16, Byte(31)), (40, Two(241))], Err((5, 3, Some(1)))),
     // a bad code and a bad closing byte
-    Case {
-        length: 72,
-        patches: [
-            Patch {
-                at: 40,
-                width: 2,
-                value: 241,
-            },
-            Patch {
-                at: 42,
-                width: 1,
-                value: 1,
-            },
-        ],
-        answer: (5, 3, 1),
-    },
+    (72, &[(40, Two(241)), (42, Byte(1))], Err((5, 3, Some(1)))),
     // a bad code and a bad deadline
-    Case {
-        length: 72,
-        patches: [
-            Patch {
-                at: 40,
-                width: 2,
-                value: 0,
-            },
-            Patch {
-                at: 32,
-                width: 4,
-                value: 0,
-            },
-        ],
-        answer: (6, 3, 1),
-    },
+    (72, &[(40, Two(0)), (32, Four(0))], Err((6, 3, Some(1)))),
     // a bad deadline and a bad phase
-    Case {
-        length: 72,
-        patches: [
-            Patch {
-                at: 32,
-                width: 4,
-                value: 0,
-            },
-            Patch {
-                at: 24,
-                width: 4,
-                value: 720721,
-            },
-        ],
-        answer: (7, 3, 1),
-    },
+    (
+        72,
+        &[(32, Four(0)), (24, Four(720_721))],
+        Err((7, 3, Some(1))),
+    ),
     // a bad phase and a bad execution
-    Case {
-        length: 72,
-        patches: [
-            Patch {
-                at: 24,
-                width: 4,
-                value: 720721,
-            },
-            Patch {
-                at: 28,
-                width: 4,
-                value: 0,
-            },
-        ],
-        answer: (8, 3, 1),
-    },
+    (
+        72,
+        &[(24, Four(720_721)), (28, Four(0))],
+        Err((8, 3, Some(1))),
+    ),
     // a bad execution and a bad hold
-    Case {
-        length: 72,
-        patches: [
-            Patch {
-                at: 28,
-                width: 4,
-                value: 0,
-            },
-            Patch {
-                at: 36,
-                width: 4,
-                value: 1,
-            },
-        ],
-        answer: (9, 3, 1),
-    },
+    (72, &[(28, Four(0)), (36, Four(1))], Err((9, 3, Some(1)))),
     // a bad hold in row 1, and a bad label in row 2
-    Case {
-        length: 72,
-        patches: [
-            Patch {
-                at: 44,
-                width: 1,
-                value: 31,
-            },
-            Patch {
-                at: 36,
-                width: 4,
-                value: 2,
-            },
-        ],
-        answer: (10, 3, 1),
-    },
+    (72, &[(44, Byte(31)), (36, Four(2))], Err((10, 3, Some(1)))),
     // a bad label in row 2, and nothing in row 1
-    Case {
-        length: 72,
-        patches: [
-            Patch {
-                at: 44,
-                width: 1,
-                value: 127,
-            },
-            Patch {
-                at: 64,
-                width: 4,
-                value: 99,
-            },
-        ],
-        answer: (5, 3, 2),
-    },
+    (72, &[(44, Byte(127)), (64, Four(99))], Err((5, 3, Some(2)))),
 ];

@@ -1,5 +1,5 @@
 -- The ranges of a table's rows, and how large the numbers of the test become.
-use Rattle.std.proofs.Common.{◌≡◌, ℕ, ◌+◌, ◌-◌, ◌*◌, ◌/◌, ◌^◌, ◌<◌, ◌≤◌, true, List, [], ◌∷◌, length, get_or, drop, sum_by, le_trans, mul-le-mul_right, mul-le-mul_left, arith}
+use Rattle.std.proofs.Common.{◌≡◌, ℕ, ◌+◌, ◌-◌, ◌*◌, ◌/◌, ◌^◌, ◌<◌, ◌≤◌, true, List, [], ◌∷◌, length, get_or, drop, sum_by, le_trans, mul-le-mul, mul-le-mul_right, arith}
 use native.Mathlib.Nat.{mul-div-le}
 use Rattle.std.specs.List.{AllByRecursion}
 use Rattle.std.proofs.ByRecursion.{All-drop, All-get_or, All-weaker, sum_by_le}
@@ -14,9 +14,6 @@ use Rattle.verdict.specs.Ranges.{InRange, most_load, most_shortfall}
 use Rattle.verdict.specs.Test.{gap, load, shortfall, longest_hold, row_at, load_to, shortfall_to, blocking_after}
 use Rattle.verdict.specs.Laws.{Small}
 
-pub products : {a b c d : ℕ} → a ≤ c → b ≤ d → a * b ≤ c * d
-products {a} {b} {c} {d} h k = le_trans (mul-le-mul_right b h) (mul-le-mul_left c k)
-
 -- no row loads more than the cycle, since its execution is at most its period
 pub load_most : (r : Row) → InRange r → load r ≤ cycle
 load_most r f = le_trans (mul-le-mul_right (cycle / r.period) f.short) (mul-div-le cycle r.period)
@@ -25,7 +22,7 @@ gap_most : (p d : ℕ) → gap p d ≤ p
 gap_most p d = grind (arith, nat_tests)
 
 pub shortfall_most : (r : Row) → InRange r → shortfall r ≤ cycle * cycle
-shortfall_most r f = products {c = cycle} {d = cycle} (le_trans (gap_most r.period r.deadline) f.within) (load_most r f)
+shortfall_most r f = mul-le-mul {n₂ = cycle} {m₂ = cycle} (le_trans (gap_most r.period r.deadline) f.within) (load_most r f)
 
 -- the ranges follow from the rules of a row
 ruled : (r : Row) → 1 ≤ r.code → r.code ≤ 240 → r.period ≡ period_of r.code
@@ -72,7 +69,7 @@ shortfall_to_most k rows a few =
 -- D × S + G + B × C stays below 10^14
 pub sum_small : (d s g b : ℕ) → d ≤ 4 * cycle → s ≤ most_load → g ≤ most_shortfall → b ≤ cycle → d * s + g + b * cycle < 10 ^ 14
 sum_small d s g b near loaded lost held =
-    let h : d * s ≤ 4 * cycle * most_load = products {c = 4 * cycle} {d = most_load} near loaded in
+    let h : d * s ≤ 4 * cycle * most_load = mul-le-mul {n₂ = 4 * cycle} {m₂ = most_load} near loaded in
     omega arith
 
 pub table_small : (rows : List Row) → lawful_after 0 rows ≡ true → length rows ≤ 32 → Small rows

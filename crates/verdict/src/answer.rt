@@ -2,7 +2,8 @@
 ghost use Rattle.std.specs.Prelude.{◌≡◌};
 ghost use Rattle.verdict.specs.Test.{number_of};
 
-#[derive(Clone, Copy)]
+// An answer of its own, and no Option: it is printed by its number, and `Admitted` says what `None` would not.
+#[derive(Clone, Copy, Debug, PartialEq, Eq)]
 pub enum Verdict {
     // every row passes
     Admitted,

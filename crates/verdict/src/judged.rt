@@ -7,6 +7,7 @@ use crate::answer::Verdict;
 use sheet::row::Row;
 use sheet::table::Table;
 
+// Clauses name its table and not a list of rows: the ranges of the rows, which proofs need, are facts of the table.
 #[derive(Drop)]
 pub struct Judged {
     pub(crate) table: Table,

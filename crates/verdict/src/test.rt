@@ -13,11 +13,7 @@ use sheet::row::Row;
 fn gap(period: u32, deadline: u32) -> u32
     ensures { result ≡ gap period deadline }
 {
-    if deadline < period {
-        period - deadline
-    } else {
-        0
-    }
+    period.saturating_sub(deadline)
 }
 
 // The units that the row's jobs take in a cycle.
@@ -25,7 +21,7 @@ fn load(row: &Row) -> u64
     requires { InRange row.now }
     ensures { result ≡ load row.now }
 {
-    row.execution as u64 * (CYCLE / row.period) as u64
+    u64::from(row.execution) * u64::from(CYCLE / row.period)
 }
 
 // What the row's short deadline costs.
@@ -33,19 +29,13 @@ fn shortfall(row: &Row) -> u64
     requires { InRange row.now }
     ensures { result ≡ shortfall row.now }
 {
-    gap(row.period, row.deadline) as u64 * load(row)
+    u64::from(gap(row.period, row.deadline)) * load(row)
 }
 
 fn longest_hold(rows: &[Row]) -> u32
     ensures { result ≡ longest_hold rows.now }
 {
-    let mut longest = 0;
-    for row in rows {
-        if row.hold > longest {
-            longest = row.hold;
-        }
-    }
-    longest
+    rows.iter().fold(0, |longest, row| longest.max(row.hold))
 }
 
 // B: the greatest hold of the rows after row k, counted from 1.
@@ -53,8 +43,7 @@ fn blocking_after(k: usize, rows: &[Row]) -> u32
     requires { (1 ≤ k) × (k ≤ length rows.now) }
     ensures { result ≡ blocking_after k rows.now }
 {
-    let (_, after) = rows.split_at(k);
-    longest_hold(after)
+    longest_hold(&rows[k..])
 }
 
 // Whether D × S + G + B × C is at most C × D. The sums of 32 rows keep both sides below 10^14.
@@ -65,8 +54,10 @@ fn passes(deadline: u32, sum_load: u64, sum_shortfall: u64, blocking: u32) -> bo
     requires held { blocking ≤ cycle }
     ensures { result ≡ nat_le (deadline * sum_load + sum_shortfall + blocking * cycle) (cycle * deadline) }
 {
-    let asked = deadline as u64 * sum_load + sum_shortfall + blocking as u64 * CYCLE as u64;
-    let room = CYCLE as u64 * deadline as u64;
+    let asked = u64::from(deadline) * sum_load
+        + sum_shortfall
+        + u64::from(blocking) * u64::from(CYCLE);
+    let room = u64::from(CYCLE) * u64::from(deadline);
     asked <= room
 }
 

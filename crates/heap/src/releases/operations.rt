@@ -13,7 +13,7 @@ impl Releases {
         ensures { coming result ≡ [] }
     {
         Releases {
-            slots: [Release { time: 0, task: 0 }; 32],
+            slots: [Release::default(); 32],
             len: 0,
         }
     }
@@ -32,11 +32,7 @@ impl Releases {
     pub fn first(&self) -> Option<Release>
         ensures { result ≡ first_of (coming self.now) }
     {
-        if self.len == 0 {
-            None
-        } else {
-            Some(self.slots[0])
-        }
+        self.slots[..self.len].first().copied()
     }
 
     // Takes the earliest release out, if there is one.

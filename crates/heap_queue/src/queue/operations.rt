@@ -4,31 +4,19 @@ ghost use Rattle.heap_queue.specs.Waiting.{waiting_jobs};
 ghost use Rattle.heap_queue.specs.Waits.{lawful_slots};
 
 use super::HeapQueue;
-use crate::scan::{count_of_task, has_job};
 use heap::slots::{add, remove};
 use ready::job::Job;
+use ready::put::{MOST_JOBS, check_put};
 use ready::queue::ReadyQueue;
 use ready::refusal::PutRefusal;
-
-// Tasks are numbered from 1 to this.
-const TASKS: u32 = 32;
-
-// How many jobs of one task can wait.
-const MOST_OF_TASK: usize = 4;
 
 impl HeapQueue {
     // No job waits.
     pub fn new() -> HeapQueue
         ensures { waiting_jobs result ≡ [] }
     {
-        let none = Job {
-            key: 0,
-            task: 0,
-            number: 0,
-            left: 0,
-        };
         HeapQueue {
-            slots: [none; 128],
+            slots: [Job::default(); MOST_JOBS],
             len: 0,
         }
     }
@@ -48,11 +36,7 @@ impl ReadyQueue for HeapQueue {
     }
 
     fn first(&self) -> Option<Job> {
-        if self.len == 0 {
-            None
-        } else {
-            Some(self.slots[0])
-        }
+        self.slots[..self.len].first().copied()
     }
 
     fn take(&mut self) -> Option<Job> {
@@ -62,22 +46,12 @@ impl ReadyQueue for HeapQueue {
     }
 
     fn put(&mut self, job: Job) -> Result<(), PutRefusal> {
-        if job.task == 0 || job.task > TASKS {
-            return Err(PutRefusal::NoSuchTask);
-        }
-        if has_job(&self.slots[0..self.len], job.task, job.number) {
-            return Err(PutRefusal::AlreadyWaits);
-        }
-        if count_of_task(&self.slots[0..self.len], job.task) >= MOST_OF_TASK {
-            return Err(PutRefusal::FourWait);
-        }
-        match add(&mut self.slots, self.len, job) {
-            Ok(()) => {
-                self.len += 1;
-                Ok(())
-            }
+        check_put(&job, &self.slots[..self.len])?;
+        let Ok(()) = add(&mut self.slots, self.len, job) else {
             // proved never to happen: fewer than 128 jobs wait where fewer than four of this task do
-            Err(_) => unreachable(),
-        }
+            unreachable()
+        };
+        self.len += 1;
+        Ok(())
     }
 }

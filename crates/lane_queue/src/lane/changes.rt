@@ -1,22 +1,20 @@
 // What is asked of a lane, and what is done to it.
-ghost use Rattle.std.specs.Prelude.{◌≡◌, ◌+◌, ◌<◌, ◌≤◌, ◌∷◌, ◌++◌, length, take, drop, count_by, nat_le};
+ghost use Rattle.std.specs.Prelude.{◌≡◌, ◌+◌, ◌<◌, ◌≤◌, ◌∷◌, length};
+ghost use Rattle.std.specs.List.{list_any, prefix_len};
 ghost use Rattle.ready.specs.Order.{before};
 ghost use Rattle.ready.specs.Sorted.{placed};
 ghost use Rattle.lane_queue.specs.Lanes.{head, lane_jobs, of_number};
 
 use super::Lane;
 use ready::job::Job;
+use ready::put::MOST_OF_TASK;
 
 // How many jobs of the row, which is in order, come before the job.
 fn place(row: &[Job], job: &Job) -> usize
     ensures within { result ≤ length row.now }
-    ensures splits { placed before job.now row.now ≡ take result row.now ++ job.now ∷ drop result row.now }
+    ensures in_front { result ≡ prefix_len (λ other. before other job.now) row.now }
 {
-    let mut at = 0;
-    while at < row.len() && row[at].is_before(job) {
-        at += 1;
-    }
-    at
+    row.iter().take_while(|other| other.is_before(job)).count()
 }
 
 impl Lane {
@@ -24,14 +22,8 @@ impl Lane {
     pub(crate) fn new() -> Lane
         ensures { result.len ≡ 0 }
     {
-        let none = Job {
-            key: 0,
-            task: 0,
-            number: 0,
-            left: 0,
-        };
         Lane {
-            jobs: [none; 4],
+            jobs: [Job::default(); MOST_OF_TASK],
             len: 0,
         }
     }
@@ -45,14 +37,9 @@ impl Lane {
 
     // Whether the job of that number is in the lane.
     pub(crate) fn has(&self, number: u32) -> bool
-        ensures { result ≡ nat_le 1 (count_by (of_number number) (lane_jobs self.now)) }
+        ensures { result ≡ list_any (of_number number) (lane_jobs self.now) }
     {
-        for job in &self.jobs[0..self.len] {
-            if job.number == number {
-                return true;
-            }
-        }
-        false
+        self.jobs[..self.len].iter().any(|job| job.number == number)
     }
 
     // Puts a job at its place, where fewer than four are in the lane.

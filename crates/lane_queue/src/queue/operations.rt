@@ -7,6 +7,7 @@ use super::LaneQueue;
 use crate::lane::Lane;
 use crate::word::{with_bit, without_bit};
 use ready::job::Job;
+use ready::put::{MOST_OF_TASK, TASKS};
 use ready::queue::ReadyQueue;
 use ready::refusal::PutRefusal;
 
@@ -16,7 +17,7 @@ impl LaneQueue {
         ensures { waiting_jobs result ≡ [] }
     {
         LaneQueue {
-            lanes: [Lane::new(); 32],
+            lanes: [Lane::new(); TASKS as usize],
             used: 0,
             count: 0,
         }
@@ -30,7 +31,7 @@ impl ReadyQueue for LaneQueue {
     ghost lawful = { unfold waiting_jobs in λ q. lawful_lanes q };
 
     fn clear(&mut self) {
-        self.lanes = [Lane::new(); 32];
+        self.lanes = [Lane::new(); TASKS as usize];
         self.used = 0;
         self.count = 0;
     }
@@ -57,7 +58,7 @@ impl ReadyQueue for LaneQueue {
     }
 
     fn put(&mut self, job: Job) -> Result<(), PutRefusal> {
-        if job.task == 0 || job.task > 32 {
+        if job.task == 0 || job.task > TASKS {
             return Err(PutRefusal::NoSuchTask);
         }
         let i = (job.task - 1) as usize;
@@ -65,7 +66,7 @@ impl ReadyQueue for LaneQueue {
         if lane.has(job.number) {
             return Err(PutRefusal::AlreadyWaits);
         }
-        if lane.len == 4 {
+        if lane.len == MOST_OF_TASK {
             return Err(PutRefusal::FourWait);
         }
         lane.insert(job);

@@ -6,7 +6,8 @@ use super::LaneQueue;
 
 impl LaneQueue {
     // The lane that has the most urgent job in front, or none where no job waits.
-    // The lowest set bit of the word gives the next lane to compare, and is then cleared.
+    // The lowest set bit of the word gives the next lane to compare, and is then cleared: by the trailing zeros of a word,
+    // as this queue is to find its lanes, and so by a loop on the word.
     pub(super) fn leader(&self) -> Option<usize>
         ensures { MatchOption result (Idle self.now.lanes) (Leads self.now.lanes) }
     {

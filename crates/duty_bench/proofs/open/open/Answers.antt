@@ -1,24 +1,30 @@
-use Rattle.std.proofs.Common.{replicate, None, refl, lit≤}
-use Rattle.rules.specs.declared.hand.Hand.TheVariants.{Empty}
-use Rattle.rules.specs.State.{no_counts}
+use Rattle.std.proofs.Common.{[], replicate, sym, refl, ap, subst}
 use Rattle.duty_bench.specs.Model.{judged_rows}
+use Rattle.duty_bench.specs.Awaited.{Awaited}
+use Rattle.duty_bench.specs.Bounds.{Counted}
 use Rattle.duty_bench.proofs.FirstReleases.{opened_ahead}
-use Rattle.duty_bench.proofs.Openings.{counted_none, take_none}
+use Rattle.duty_bench.proofs.Openings.{all_none, counted_none, is_opened, rows_few}
 use Rattle.duty_bench.proofs.open.open.Goals as goal
 
 pub invariant_of-result : goal.invariant_of-result
-invariant_of-result g c = record { known = refl; early = lit≤ tt; whole = refl; counted = counted_none 32; awaited = c.first_releases-coming.ensures; ahead = opened_ahead (judged_rows c.args.judged) (replicate 32 no_counts); idle = lit≤ tt; begun = lit≤ tt; interruptions = lit≤ tt }
+invariant_of-result g c =
+    let rows = judged_rows c.args.judged in
+    let none = ap (replicate 32) (sym (all_none c.default.result c.default.ensures)) in
+    record {
+      reached = record {
+        table = c.args.judged.table;
+        calls = [];
+        rows = refl;
+        state = is_opened c.args.judged c.clear.ensures c.default.ensures c.default-2.ensures;
+      };
+      awaits = record {
+        lawful = c.args.judged.table.lawful;
+        few = rows_few c.args.judged;
+        awaited = subst (λ tasks. Awaited rows tasks c.first_releases-coming.result) none c.first_releases-coming.ensures;
+        none_before = opened_ahead rows (replicate 32 c.default.result);
+      };
+      settled = record { whole = refl; counted = subst (Counted 0 0) none (counted_none 32) };
+    }
 
 pub returns : goal.returns
-returns g c = record {
-  state = λ i. record {
-    clock = 0;
-    waiting = c.clear.ensures i;
-    hand = Empty;
-    previous = None;
-    tasks = take_none c.args.judged i;
-    counts = record { idle = 0; begun = 0; interruptions = 0 };
-    miss = None;
-  };
-  judged = refl;
-}
+returns g c = record { rows = refl; state = is_opened c.args.judged c.clear.ensures c.default.ensures c.default-2.ensures }

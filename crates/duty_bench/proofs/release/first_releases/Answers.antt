@@ -8,12 +8,6 @@ use Rattle.duty_bench.proofs.Openings.{rows_few}
 use Rattle.duty_bench.proofs.FirstReleases.{opened_more, opened_all}
 use Rattle.duty_bench.proofs.release.first_releases.Goals as goal
 
-pub overflow_add-i : goal.overflow_add-i
-overflow_add-i c = omega (arith, rows_few c.args.judged.now, ap length c.rows-rows.ensures)
-
-pub overflow_cast-i : goal.overflow_cast-i
-overflow_cast-i c = omega (arith, rows_few c.args.judged.now, ap length c.rows-rows.ensures)
-
 pub loop-i-preserved : goal.loop-i-preserved
 loop-i-preserved c =
     opened_more c.rows-rows.result.now c.loop-i.i _ c.loop-i.coming c.add.new.self c.loop-i-test.true

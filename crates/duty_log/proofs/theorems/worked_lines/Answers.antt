@@ -12,6 +12,7 @@ returns c =
             head_words = refl;
             verdict = refl;
             sheet = refl;
+            short_sheet = refl;
             done = refl;
             idle = refl;
             put_back = refl;
@@ -21,6 +22,7 @@ returns c =
             end = refl;
           };
       outcomes = record { missed = refl; punctual = refl };
+      answers = record { punctual = refl; missed = refl; stopped = refl; last_clock = refl; no_letter = refl };
       longest = record { reached = refl };
       verdict = record { fails = refl };
       buffers = record { longer = refl; longer_left = refl; just = refl; just_left = refl; shorter = refl; shorter_left = refl; number = refl };

@@ -4,9 +4,6 @@ use Rattle.heap.proofs.Orders.{lawful}
 use Rattle.heap.proofs.Sifting as sifting
 use Rattle.heap.proofs.slots.sift_down.Goals as goal
 
-pub loop-at-smaller : goal.loop-at-smaller
-loop-at-smaller g c = omega arith
-
 pub loop-at-preserved : goal.loop-at-preserved
 loop-at-preserved g c =
     let e = g.T.HeapEntry in
@@ -18,19 +15,3 @@ loop-at-preserved g c =
       λ h. sifting.sinks e.ahead (lawful e.fields e.ahead m.one m.neither m.chain) l.heap c.swap.new.self told.len l.at c.first_child-child.result best.bound.0 best.bound.1 best.bound.2 (told.by_index.0, told.by_index.1, told.by_index.2) (λ d. sym (c.if-not-comes_before.ensures d)) best.least (l.invariant.1 h),
       IsPermutation-trans c.args.heap.now l.heap c.swap.new.self l.invariant.2 told.permutation,
     )
-
-pub returns-then-not-comes_before : goal.returns-then-not-comes_before
-returns-then-not-comes_before g c =
-    let e = g.T.HeapEntry in
-    let m = g.met.T.HeapEntry in
-    let l = c.loop-at in
-    let best = c.first_child-child.ensures in
-    record {
-      heaped = λ h. sifting.rests e.ahead (lawful e.fields e.ahead m.one m.neither m.chain) l.heap l.at c.first_child-child.result (λ d. sym (c.if-not-comes_before.ensures d)) best.least (l.invariant.1 h);
-      shuffled = l.invariant.2;
-    }
-
-pub returns : goal.returns
-returns g c =
-    let l = c.loop-at in
-    record { heaped = λ h. sifting.leaf g.T.HeapEntry.ahead l.heap l.at c.loop-at-test.false (l.invariant.1 h); shuffled = l.invariant.2 }

@@ -15,8 +15,3 @@ loop-at-preserved g c =
       λ h. sifting.rises e.ahead (lawful e.fields e.ahead m.one m.neither m.chain) l.heap c.swap.new.self told.len l.at c.loop-at-test.true (told.by_index.0, told.by_index.1, told.by_index.2) (λ d. sym (c.if-comes_before.ensures d)) (l.invariant.2 h),
       IsPermutation-trans c.args.heap.now l.heap c.swap.new.self l.invariant.3 told.permutation,
     )
-
-pub returns-else-comes_before : goal.returns-else-comes_before
-returns-else-comes_before g c =
-    let l = c.loop-at in
-    record { heaped = λ h. sifting.stays g.T.HeapEntry.ahead l.heap l.at (λ d. sym (c.if-comes_before.ensures d)) (l.invariant.2 h); shuffled = l.invariant.3 }

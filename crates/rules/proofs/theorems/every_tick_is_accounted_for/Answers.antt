@@ -1,5 +1,5 @@
-use Rattle.rules.proofs.Accounted.{every_time, every_idle}
+use Rattle.rules.proofs.Accounted.{every_time}
 use Rattle.rules.proofs.theorems.every_tick_is_accounted_for.Goals as goal
 
-pub returns : goal.returns
-returns c = record { idleOrGiven = every_time; idleIfNothing = every_idle }
+pub returns-clause-idle_or_given : goal.returns-clause-idle_or_given
+returns-clause-idle_or_given c = every_time

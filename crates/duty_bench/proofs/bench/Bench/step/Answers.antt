@@ -1,15 +1,38 @@
-use Rattle.std.proofs.Common.{Ok, sym, ap, ◌∙◌}
-use Rattle.rules.specs.Step.{Stepped}
-use Rattle.duty_bench.specs.Model.{model, judged_rows}
-use Rattle.duty_bench.proofs.Steps.{no_miss, step_done}
+use Rattle.std.proofs.Common.{sym, refl, ◌∙◌, subst}
+use Rattle.duty_bench.specs.Awaited.{Awaits}
+use Rattle.duty_bench.specs.Model.{bench_of, judged_rows, state_of}
+use Rattle.duty_bench.proofs.Reaching.{may_step, reached_step}
+use Rattle.duty_bench.proofs.Steps.{no_miss, step_state, step_answer}
 use Rattle.duty_bench.proofs.bench.Bench.step.Goals as goal
 
-pub returns-in-r : goal.returns-in-r
-returns-in-r g c =
-    let p = c.args.self.now.parts in
-    let is = step_done (judged_rows p.judged) c.args.letter (model g.Q.ReadyQueue.waiting p) (no_miss p.stage c.in_default.not-Stopped) c.if-self-eq-LAST_CLOCK.false c.in-r.is in
+pub advance-requires-clause-midway : goal.advance-requires-clause-midway
+advance-requires-clause-midway g c =
+    may_step g.Q.ReadyQueue.waiting c.self.inside.judged c.self.inside.coming c.self.inside.parts c.self.invariant c.in_default.not-Stopped c.if-self-eq-LAST_CLOCK.false
+
+pub invariant_of-self : goal.invariant_of-self
+invariant_of-self g c =
+    let w = g.Q.ReadyQueue.waiting in
+    let p = c.self.inside.parts in
+    let rows = judged_rows c.self.inside.judged in
+    let read = sym c.in_ok-letter.was ∙ c.try_from.ensures in
     record {
-      state = c.advance.ensures.is ∙ sym (ap (λ (x : Stepped). x.state) is);
-      answer = ap Ok c.advance.ensures.outcome ∙ sym (ap (λ (x : Stepped). x.answer) is);
-      judged = c.advance.ensures.judged;
+      reached = reached_step (bench_of w c.self.inside.judged p) _ c.args.letter c.self.invariant.reached refl
+          (step_state c.rows.result.now rows c.args.letter c.in_ok-letter.letter (state_of w p) c.rows.ensures (no_miss p.stage c.in_default.not-Stopped) c.if-self-eq-LAST_CLOCK.false read
+          (state_of w c.advance.new.self) c.advance.ensures.is);
+      awaits = subst (λ l. Awaits l c.advance.new.self.tasks c.advance.new.self.clock c.advance.new.coming) c.rows.ensures c.advance.ensures.awaits;
+      settled = c.advance.ensures.settled;
     }
+
+pub returns : goal.returns
+returns g c =
+    let w = g.Q.ReadyQueue.waiting in
+    let p = c.self.inside.parts in
+    let rows = judged_rows c.self.inside.judged in
+    let s = state_of w p in
+    let miss = no_miss p.stage c.in_default.not-Stopped in
+    let read = sym c.in_ok-letter.was ∙ c.try_from.ensures in
+    rw (← c.self.view_is) (record {
+      state = step_state c.rows.result.now rows c.args.letter c.in_ok-letter.letter s c.rows.ensures miss c.if-self-eq-LAST_CLOCK.false read _ c.advance.ensures.is;
+      answer = step_answer c.rows.result.now rows c.args.letter c.in_ok-letter.letter s c.rows.ensures miss c.if-self-eq-LAST_CLOCK.false read _ c.advance.ensures.outcome;
+      rows = refl;
+    })

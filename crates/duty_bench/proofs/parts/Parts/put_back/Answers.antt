@@ -1,19 +1,15 @@
-use Rattle.std.proofs.Common.{refl, ap, ◌∙◌, lit≤}
-use Rattle.duty_log.specs.declared.line.Event.TheVariants.{PutBack}
+use Rattle.std.proofs.Common.{◌+◌, Some, None, sym, ap, ◌∙◌}
 use Rattle.ready.specs.Waiting.{put_list}
-use Rattle.duty_bench.specs.declared.stage.Stage.TheVariants.{Free}
-use Rattle.duty_bench.specs.Stages.{tick_of}
-use Rattle.duty_bench.proofs.Works.{moved_is, settled_is}
+use Rattle.duty_bench.specs.Model.{miss_of}
 use Rattle.duty_bench.proofs.parts.Parts.put_back.Goals as goal
 
-pub returns : goal.returns
-returns g c = record {
-  is =
-      moved_is g.Q.ReadyQueue.waiting c.args.self.now _ PutBack c.args.job 0 c.requires.hand.0 Free c.requires.hand.1 refl refl refl refl
-      (c.put.ensures.list ∙ ap (λ j. put_list j (g.Q.ReadyQueue.waiting c.args.self.now.queue)) c.worked-back.ensures)
-      refl refl c.credit.ensures refl refl;
-  line = c.line.ensures ∙ ap (λ j. tick_of c.args.self.now.clock j PutBack) c.worked-back.ensures;
-  settled = settled_is c.args.self.now _ 0 c.args.job.task Free c.requires.midway (lit≤ tt) refl refl refl refl c.credit.ensures refl refl;
-  running = refl;
-  judged = refl;
+pub returns-clause-is : goal.returns-clause-is
+returns-clause-is g c i = record {
+  clock = c.args.self.now.clock + 1;
+  waiting = (c.put.ensures.list ∙ ap (λ j. put_list j (g.Q.ReadyQueue.waiting c.args.self.now.queue)) c.worked-back.ensures) i;
+  hand = None;
+  previous = Some (c.id.ensures i);
+  tasks = c.credit.ensures i;
+  counts = c.args.self.now.counts;
+  miss = sym (ap miss_of c.requires.hand.1) i;
 }

@@ -1,17 +1,17 @@
-use Rattle.std.proofs.Common.{refl, rules}
+use Rattle.std.proofs.Common.{refl}
 use Rattle.duty_bench.proofs.parts.Parts.work.Goals as goal
 
-pub finish-requires : goal.finish-requires
-finish-requires g c = record { midway = search rules; hand = (c.in-Holding-f.holds-0, refl) }
+pub finish-requires-clause-hand : goal.finish-requires-clause-hand
+finish-requires-clause-hand g c = (c.in-Holding-Finish.held.holds, refl)
 
-pub finish-requires-then-ran-le1 : goal.finish-requires-then-ran-le1
-finish-requires-then-ran-le1 g c = record { midway = search rules; hand = (c.in-Holding-h.holds, refl) }
+pub finish-requires-then-ran-le1-clause-hand : goal.finish-requires-then-ran-le1-clause-hand
+finish-requires-then-ran-le1-clause-hand g c = (c.in-Holding-Hold.held.holds, refl)
 
-pub put_back-requires : goal.put_back-requires
-put_back-requires g c = record { midway = search rules; hand = (c.in-Holding-h.holds, refl) }
+pub put_back-requires-clause-hand : goal.put_back-requires-clause-hand
+put_back-requires-clause-hand g c = (c.in-Holding-Hold.held.holds, refl)
 
-pub finish-requires-then-job-le1 : goal.finish-requires-then-job-le1
-finish-requires-then-job-le1 g c = record { midway = search rules; hand = (c.in-Holding-default.holds-0, refl) }
+pub finish-requires-then-job-le1-clause-hand : goal.finish-requires-then-job-le1-clause-hand
+finish-requires-then-job-le1-clause-hand g c = (c.in-Holding-Run.held.holds, refl)
 
-pub put_back-requires-else-job-le1 : goal.put_back-requires-else-job-le1
-put_back-requires-else-job-le1 g c = record { midway = search rules; hand = (c.in-Holding-default.holds-0, refl) }
+pub put_back-requires-else-job-le1-clause-hand : goal.put_back-requires-else-job-le1-clause-hand
+put_back-requires-else-job-le1-clause-hand g c = (c.in-Holding-Run.held.holds, refl)

@@ -23,6 +23,3 @@ invariant_of-self c =
     let a = length-take-le (l.len - 0) l.jobs (omega (arith, l.whole, l.within)) in
     let b = length-drop (l.len - 0) l.jobs in
     record { whole = length-append c.rotate_left.new.self _ ∙ omega (arith, a, b, c.rotate_left.ensures.len, l.whole, l.within); within = omega (arith, l.within); sorted = still l c.rotate_left.new.self c.requires c.rotate_left.ensures.after }
-
-pub returns : goal.returns
-returns c = record { jobs = left c.args.self.now c.rotate_left.new.self c.requires c.rotate_left.ensures.after; len = omega arith }

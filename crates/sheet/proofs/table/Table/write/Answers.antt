@@ -25,11 +25,11 @@ returns c =
     let count : length rows ≡ c.args.self.now.count = length_rows_of c.args.self.now in
     let long : length (sheet_of rows) ≡ sheet_size (length rows) = length_sheet rows in
     let size : c.sheet_size-size.result ≡ length (sheet_of rows) = omega (arith, c.sheet_size-size.ensures) in
-    let head : c.write_header.new.out ≡ put old 0 (header_bytes (length rows))
-    = c.write_header.ensures ∙ ap (λ n. put old 0 (header_bytes n)) (sym count) in
+    let head : c.copy_at.new.out ≡ put old 0 (header_bytes (length rows))
+    = c.copy_at.ensures ∙ ap (put old 0) c.header_bytes.ensures ∙ ap (λ n. put old 0 (header_bytes n)) (sym count) in
     let filled : c.write_rows.new.out ≡ put old 0 (sheet_of rows)
     = c.write_rows.ensures
-    ∙ ap (put c.write_header.new.out 16) (ap rows_bytes c.rows.ensures)
+    ∙ ap (put c.copy_at.new.out 16) (ap rows_bytes c.rows.ensures)
     ∙ ap (λ o. put o 16 (rows_bytes rows)) head
     ∙ ap (λ n. put (put old 0 (header_bytes (length rows))) (0 + n) (rows_bytes rows)) (sym (length_header (length rows)))
     ∙ put_put old 0 (header_bytes (length rows)) (rows_bytes rows) (omega arith) in

@@ -1,5 +1,5 @@
 use Rattle.std.proofs.Common.{◌≡◌, ◌+◌, ◌-◌, ◌<◌, ◌≤◌, false, leb, length, get_or, count_by, sym, ap, ◌∙◌, subst, arith}
-use Rattle.std.specs.List.{flat_map}
+use Rattle.std.specs.List.{flat_map, list_any}
 use Rattle.std.proofs.lemmas.List.{get_or_default, length-set}
 use Rattle.std.proofs.lemmas.Bool.{leb-true, leb-false}
 use Rattle.ready.specs.declared.job.Job.{Job}
@@ -8,6 +8,7 @@ use Rattle.ready.specs.Order.{before}
 use Rattle.ready.specs.Sorted.{placed}
 use Rattle.ready.specs.Waiting.{is_job, of_task}
 use Rattle.ready.proofs.Orderings as orderings
+use Rattle.ready.proofs.Counting.{list_any_counts}
 use Rattle.ready.proofs.Lawful.{Welcome, known_task, lawful_most}
 use Rattle.ready.proofs.Puts as answers
 use Rattle.lane_queue.specs.declared.lane.Lane.{Lane}
@@ -35,6 +36,9 @@ module _ (q : LaneQueue) (job : Job) (d : Lane) (low : job.task ≡ 0 → ⊥) (
   unfolding waiting_jobs
   jobs_waiting = ap (λ (l : Lane). count_by (of_number job.number) (lane_jobs l)) lane ∙ sym (puts.counts_number q.lanes q.owned (job.task - 1) job in' task)
 
+  found : list_any (of_number job.number) (lane_jobs (get_or q.lanes (job.task - 1) d)) ≡ leb 1 (count_by (of_number job.number) (lane_jobs (get_or q.lanes (job.task - 1) d)))
+  found = list_any_counts (of_number job.number) (lane_jobs (get_or q.lanes (job.task - 1) d))
+
   tasks_waiting : (get_or q.lanes (job.task - 1) d).len ≡ count_by (of_task job.task) (waiting_jobs q)
   unfolding waiting_jobs
   tasks_waiting = ap (λ (l : Lane). l.len) lane ∙ sym (puts.counts_task q.lanes q.owned (job.task - 1) job in' task)
@@ -54,19 +58,19 @@ returns-then-has c =
     let d = c.index-self-i.result in
     let low = c.if-job-eq0.false in
     let high : job.task ≤ 32 = omega arith in
-    let some : 1 ≤ count_by (is_job job.task job.number) (waiting_jobs q) = subst (λ n. 1 ≤ n) (jobs_waiting q job d low high) (leb-true 1 _ (sym c.if-has.ensures)) in
+    let some : 1 ≤ count_by (is_job job.task job.number) (waiting_jobs q) = subst (λ n. 1 ≤ n) (jobs_waiting q job d low high) (leb-true 1 _ (sym (c.if-has.ensures ∙ found q job d low high))) in
     let e = answers.answers_waits job (waiting_jobs q) (known_task job.task low high) some in
     record { answer = sym e; list = sym (answers.put_refused job (waiting_jobs q) AlreadyWaits e) }
 
-pub returns-then-lane-eq4 : goal.returns-then-lane-eq4
-returns-then-lane-eq4 c =
+pub returns-then-lane-eq-MOST_OF_TASK : goal.returns-then-lane-eq-MOST_OF_TASK
+returns-then-lane-eq-MOST_OF_TASK c =
     let q = c.args.self.now in
     let job = c.args.job in
     let d = c.index-self-i.result in
     let low = c.if-job-eq0.false in
     let high : job.task ≤ 32 = omega arith in
-    let none : count_by (is_job job.task job.number) (waiting_jobs q) < 1 = subst (λ n. n < 1) (jobs_waiting q job d low high) (leb-false 1 _ (sym c.if-has.ensures)) in
-    let full : 4 ≤ count_by (of_task job.task) (waiting_jobs q) = omega (arith, tasks_waiting q job d low high, c.if-lane-eq4.true) in
+    let none : count_by (is_job job.task job.number) (waiting_jobs q) < 1 = subst (λ n. n < 1) (jobs_waiting q job d low high) (leb-false 1 _ (sym (c.if-has.ensures ∙ found q job d low high))) in
+    let full : 4 ≤ count_by (of_task job.task) (waiting_jobs q) = omega (arith, tasks_waiting q job d low high, c.if-lane-eq-MOST_OF_TASK.true) in
     let e = answers.answers_four job (waiting_jobs q) (known_task job.task low high) none full in
     record { answer = sym e; list = sym (answers.put_refused job (waiting_jobs q) FourWait e) }
 
@@ -90,7 +94,7 @@ invariant_of-self c =
     let jobs_are : lane_jobs m ≡ placed before job (lane_jobs (get_or ls i empty)) = c.insert.ensures.jobs ∙ ap (λ (k : Lane). placed before job (lane_jobs k)) same in
     let len_is : m.len ≡ (get_or ls i empty).len + 1 = c.insert.ensures.len ∙ ap (λ (k : Lane). k.len + 1) same in
     let n = puts.put_length ls q.owned i m job l t jobs_are len_is in
-    record { whole = length-set ls i m ∙ q.whole; marked = puts.put_marked ls q.owned i m job l t jobs_are len_is q.used c.with_bit-self.result q.marked (λ k. ap (bit k) c.with_bit-self.ensures ∙ bit_with q.used i (omega (arith, q.whole)) k); counted = ap (λ k. k + 1) q.counted ∙ sym n; owned = puts.put_owned ls q.owned i m job l t jobs_are len_is; once = puts.put_once ls q.owned i m job l t jobs_are len_is (free q job d low high c.if-has.ensures c.if-lane-eq4.false) (lawful_lanes q).once }
+    record { whole = length-set ls i m ∙ q.whole; marked = puts.put_marked ls q.owned i m job l t jobs_are len_is q.used c.with_bit-self.result q.marked (λ k. ap (bit k) c.with_bit-self.ensures ∙ bit_with q.used i (omega (arith, q.whole)) k); counted = ap (λ k. k + 1) q.counted ∙ sym n; owned = puts.put_owned ls q.owned i m job l t jobs_are len_is; once = puts.put_once ls q.owned i m job l t jobs_are len_is (free q job d low high (c.if-has.ensures ∙ found q job d low high) c.if-lane-eq-MOST_OF_TASK.false) (lawful_lanes q).once }
 
 pub returns : goal.returns
 unfolding waiting_jobs
@@ -104,7 +108,7 @@ returns c =
     let low = c.if-job-eq0.false in
     let high : job.task ≤ 32 = omega arith in
     let same = lane q job d low high in
-    let e = answers.answers_ok job (waiting_jobs q) (free q job d low high c.if-has.ensures c.if-lane-eq4.false) in
+    let e = answers.answers_ok job (waiting_jobs q) (free q job d low high (c.if-has.ensures ∙ found q job d low high) c.if-lane-eq-MOST_OF_TASK.false) in
     let jobs_are : lane_jobs m ≡ placed before job (lane_jobs (get_or ls i empty)) = c.insert.ensures.jobs ∙ ap (λ (k : Lane). placed before job (lane_jobs k)) same in
     let len_is : m.len ≡ (get_or ls i empty).len + 1 = c.insert.ensures.len ∙ ap (λ (k : Lane). k.len + 1) same in
     record { answer = sym e; list = puts.put_ordered ls q.owned i m job (in' q job d low high) (task q job d low high) jobs_are len_is ∙ sym (answers.put_placed job (waiting_jobs q) e) }
