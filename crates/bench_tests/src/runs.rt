@@ -2,9 +2,10 @@
 use checksum::sum::Checksum;
 use duty_bench::bench::Bench;
 use duty_bench::open::open;
-use duty_log::line::{End, LONGEST, Outcome};
+use duty_log::line::{LONGEST, Line, Outcome};
 use duty_log::logged::Logged;
 use duty_log::refusal::StepRefusal;
+use program::lines::last_line;
 use ready::job::JobId;
 use ready::queue::ReadyQueue;
 use rules::closing::Closing;
@@ -20,8 +21,8 @@ pub struct Run {
     // refused steps
     pub refused: u32,
     pub verdict: Verdict,
-    // clock, idle ticks, jobs begun, interruptions at the close
-    pub end: End,
+    // the last line of the log: clock, idle ticks, jobs begun, interruptions
+    pub end: Line,
     // the job that missed its deadline, if one did
     pub miss: Option<JobId>,
 }
@@ -88,12 +89,7 @@ pub fn run_letters<Q: ReadyQueue>(table: Table, queue: Q, letters: &[u8]) -> Run
         checksum: answers.checksum,
         refused: answers.refused,
         verdict,
-        end: End {
-            clock: closing.clock,
-            idle: closing.counts.idle,
-            begun: closing.counts.begun,
-            interruptions: closing.counts.interruptions,
-        },
+        end: last_line(&closing),
         miss: closing.miss.map(|job| job.id()),
     }
 }

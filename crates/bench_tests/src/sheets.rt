@@ -25,7 +25,7 @@ pub const MIXED: [Task; 8] = [
 // 32 tasks with the longest jobs and deadlines: four jobs of nearly every task wait before the first miss.
 pub const CROWDED: [Task; 32] = [(0, 16, 16, 64, 4); 32];
 
-// Puts in a big-endian number at a place.
+// Puts in a big-endian number at a place. The tests of sheets have their own, since it is one line.
 fn put(bytes: &mut [u8], at: usize, number: u32) {
     for (byte, digit) in bytes.iter_mut().skip(at).zip(number.to_be_bytes()) {
         *byte = digit;
@@ -44,7 +44,7 @@ fn put_row(bytes: &mut [u8], task: Task) {
     put(bytes, 24, period.wrapping_mul(65536));
 }
 
-// Fills in the sheet of these rows, and gives its size.
+// Fills in the sheet of these rows, and gives its size: there is no heap to make one of the right length on.
 pub fn fill(bytes: &mut [u8; 912], tasks: &[Task]) -> usize {
     let count = tasks.len().min(32);
     let size = 16 + 28 * count;

@@ -2,7 +2,7 @@
 use crate::runs::{Run, run_letters};
 use crate::sheets::{CROWDED, EXAMPLE, MIXED, OVERLOADED, Task, table};
 use checksum::draws::Draws;
-use duty_log::line::End;
+use duty_log::line::{End, Line};
 use heap_queue::queue::HeapQueue;
 use lane_queue::queue::LaneQueue;
 use plain_queue::queue::PlainQueue;
@@ -42,19 +42,17 @@ fn letter_of(draw: u64) -> u8 {
 fn drawn() -> [u8; STEPS] {
     let mut letters = [0; STEPS];
     let mut draws = Draws { last: 20_117 };
-    for letter in &mut letters {
-        *letter = letter_of(draws.draw());
-    }
+    letters.fill_with(|| letter_of(draws.draw()));
     letters
 }
 
-fn end(clock: u32, idle: u32, begun: u32, interruptions: u32) -> End {
-    End {
+fn end(clock: u32, idle: u32, begun: u32, interruptions: u32) -> Line {
+    Line::End(End {
         clock,
         idle,
         begun,
         interruptions,
-    }
+    })
 }
 
 fn job(task: u32, number: u32) -> Option<JobId> {

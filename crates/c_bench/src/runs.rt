@@ -10,25 +10,22 @@ ghost use Rattle.c_bench.specs.Filled.{Filled};
 ghost use Rattle.c_bench.specs.Lines.{end_line};
 
 use crate::sheets::put_line;
-use duty_bench::open::open;
+use duty_bench::run::run_calls;
 use duty_log::line::Line;
 use plain_queue::queue::PlainQueue;
 use program::lines::{fault_line, last_line};
 use program::sheets::judge_sheet;
+use rules::call::Call;
 use rules::closing::Closing;
 use verdict::judged::Judged;
 
 // Opens a bench on the judged table, steps with each byte as the character of that number, done or refused, and closes the bench.
-// A loop beside that of `run`, which takes its calls as a list: for that the letters would have to be copied to memory that is asked for.
 fn closed_after(judged: Judged, letters: &[u8]) -> Closing
     ensures rules { result ≡ closing_of (after_run (judged_rows judged) (map Step letters.now)) }
     ensures promised { Promised (judged_rows judged) result }
 {
-    let mut bench = open(judged, PlainQueue::new());
-    for letter in letters {
-        let _ = bench.step(char::from(*letter));
-    }
-    bench.close()
+    let calls = letters.iter().map(|letter| Call::Step(char::from(*letter)));
+    run_calls(judged, PlainQueue::new(), calls)
 }
 
 // The last line of the log of a run on a sheet with letters, or the line of a refused sheet.

@@ -23,11 +23,9 @@ use Rattle.duty_bench.proofs.Releasing.{time_renewed, time_kept, dues, none_rele
 
 -- The rows of a table.
 
-pub deadline_most : (rows : List Row) → lawful_after 0 rows ≡ true → (i : ℕ) → (row_at i rows).deadline ≤ 2882880
-deadline_most rows lawful i = let r = ranges_at rows lawful i in omega (arith, r.deadline_within, r.period_within)
-
-pub period_most : (rows : List Row) → lawful_after 0 rows ≡ true → (i : ℕ) → (row_at i rows).period ≤ 720720
-period_most rows lawful i = let r = ranges_at rows lawful i in omega (arith, r.period_within)
+pub soon : (rows : List Row) → lawful_after 0 rows ≡ true → (i : ℕ) → ((row_at i rows).deadline ≤ 2882880) × ((row_at i rows).period ≤ 720720)
+soon rows lawful i =
+    let r = ranges_at rows lawful i in (omega (arith, r.deadline_within, r.period_within), omega (arith, r.period_within))
 
 -- One job more is released.
 

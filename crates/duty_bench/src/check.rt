@@ -61,14 +61,13 @@ impl<Q: ReadyQueue> Parts<Q> {
         ensures is { state_of Q.waiting self.new ≡ checked (state_of Q.waiting self.old) }
         ensures line { result ≡ miss_line (missed (state_of Q.waiting self.old)) }
     {
-        let Some(job) = self.most_urgent() else {
-            return None;
-        };
+        let job = self.most_urgent()?;
         if job.key > self.clock {
             return None;
         }
         let hand = self.stage.hand();
         self.stage = Stage::Stopped { hand, miss: job };
+        // built here alone: the log knows no job, and a job no log
         Some(Miss {
             task: job.task,
             job: job.number,

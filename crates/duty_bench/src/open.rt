@@ -9,6 +9,7 @@ use crate::bench::Bench;
 use crate::parts::Parts;
 use crate::release::first_releases;
 use crate::stage::Stage;
+use ready::put::TASKS;
 use ready::queue::ReadyQueue;
 use rules::closing::Closing;
 use rules::counts::{Counts, TaskCounts};
@@ -26,7 +27,7 @@ pub fn open<Q: ReadyQueue>(judged: Judged, mut queue: Q) -> Bench<Q>
         clock: 0,
         stage: Stage::Free,
         previous: None,
-        tasks: [TaskCounts::default(); 32],
+        tasks: [TaskCounts::default(); TASKS as usize],
         counts: Counts::default(),
     };
     Bench {
@@ -37,11 +38,11 @@ pub fn open<Q: ReadyQueue>(judged: Judged, mut queue: Q) -> Bench<Q>
 }
 
 // The counts of each task of a table, and counts of 0 up to 32.
-fn padded(tasks: &[TaskCounts]) -> [TaskCounts; 32]
+fn padded(tasks: &[TaskCounts]) -> [TaskCounts; TASKS as usize]
     requires { length tasks.now ≤ 32 }
     ensures { result ≡ tasks.now ++ replicate (32 - length tasks.now) no_counts }
 {
-    let mut all = [TaskCounts::default(); 32];
+    let mut all = [TaskCounts::default(); TASKS as usize];
     all[0..tasks.len()].copy_from_slice(tasks);
     all
 }

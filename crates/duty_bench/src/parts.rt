@@ -1,6 +1,7 @@
 // The parts of a bench that a step changes one after the other.
 use crate::stage::Stage;
 use ready::job::JobId;
+use ready::put::TASKS;
 use ready::queue::ReadyQueue;
 use rules::counts::{Counts, TaskCounts};
 
@@ -10,6 +11,7 @@ pub struct Parts<Q: ReadyQueue> {
     pub(crate) clock: u32,
     pub(crate) stage: Stage,
     pub(crate) previous: Option<JobId>,
-    pub(crate) tasks: [TaskCounts; 32],
+    // for the tasks of the table, and beyond: the memory of a bench is fixed
+    pub(crate) tasks: [TaskCounts; TASKS as usize],
     pub(crate) counts: Counts,
 }

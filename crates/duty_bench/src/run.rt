@@ -1,5 +1,7 @@
 // A whole run: a bench is opened, any list of calls is made on it, and it is closed.
-ghost use Rattle.std.specs.Prelude.{◌≡◌};
+ghost use Rattle.std.specs.Prelude.{◌≡◌, List};
+ghost use Rattle.std.specs.Iterator.{Drains, IsFinite};
+ghost use Rattle.rules.specs.declared.call.Call.{Call};
 ghost use Rattle.rules.specs.Promises.{Promised};
 ghost use Rattle.rules.specs.Run.{called, after_run, closing_of};
 ghost use Rattle.duty_bench.specs.Model.{judged_rows};
@@ -34,14 +36,28 @@ impl<Q: ReadyQueue> Bench<Q> {
     }
 }
 
+// Opens a bench on the judged table over the queue, makes each call that the iterator gives, done or refused, and closes the bench.
+pub fn run_calls<Q: ReadyQueue, I: Iterator<Item = Call> + Drop>(
+    judged: Judged,
+    queue: Q,
+    calls: I,
+) -> Closing
+    requires can { I.can_next calls }
+    requires ends { IsFinite (I.remaining calls) }
+    ensures rules { (list : List Call) × Drains I.next_gives calls list × (result ≡ closing_of (after_run (judged_rows judged) list)) }
+    ensures promised { Promised (judged_rows judged) result }
+{
+    let mut bench = open(judged, queue);
+    for call in calls {
+        bench.make(call);
+    }
+    bench.close()
+}
+
 // Opens a bench on the judged table over the queue, makes each call, done or refused, and closes the bench.
 pub fn run<Q: ReadyQueue>(judged: Judged, queue: Q, calls: &[Call]) -> Closing
     ensures rules { result ≡ closing_of (after_run (judged_rows judged) calls.now) }
     ensures promised { Promised (judged_rows judged) result }
 {
-    let mut bench = open(judged, queue);
-    for call in calls {
-        bench.make(*call);
-    }
-    bench.close()
+    run_calls(judged, queue, calls.iter().copied())
 }

@@ -1,5 +1,5 @@
 // A tick of the processor, in the order of the rules.
-ghost use Rattle.std.specs.Prelude.{◌≡◌, ℕ, ◌+◌, ◌^◌, ◌<◌, ◌≤◌, true, length, slice_index_or};
+ghost use Rattle.std.specs.Prelude.{◌≡◌, ℕ, ◌+◌, ◌^◌, ◌<◌, ◌≤◌, length, slice_index_or};
 ghost use Rattle.verdict.specs.Test.{row_at};
 ghost use Rattle.rules.specs.Tick.{worked as worked_job};
 ghost use Rattle.duty_bench.specs.Model.{state_of, hand_of};
@@ -29,7 +29,7 @@ fn worked(job: &Job) -> Job
     }
 }
 
-// Counts a tick given to a task, and so many jobs done.
+// Counts a tick given to a task, and so many jobs done: a number that is added, and no flag.
 fn credit(tasks: &mut [TaskCounts], task: u32, done: u32)
     requires within { (1 ≤ task) × (task ≤ length tasks.old) × (done ≤ 1) }
     requires counted { (k : ℕ) → ((slice_index_or tasks.old k no_counts).done < 2 ^ 31) × ((slice_index_or tasks.old k no_counts).given < 2 ^ 31) }
@@ -53,7 +53,7 @@ fn line(clock: u32, job: &Job, event: Event) -> Tick
     }
 }
 
-// The row of a task; blank beyond the rows.
+// The row of a task; blank beyond the rows, as the rules have it.
 pub(crate) fn row_of(rows: &[Row], task: u32) -> Row
     ensures { result ≡ row_at task rows.now }
 {
@@ -70,7 +70,8 @@ impl<Q: ReadyQueue> Parts<Q> {
     {
         if let Stage::Free = self.stage {
             if let Some(job) = self.queue.take() {
-                // field by field, as below in `work`, so that it passes from queue to hand and back in registers: a copy as a whole costs a busy row a fifth of its speed
+                // field by field, as below in `work`, so that it passes from queue to hand and back in registers:
+                // a copy as a whole costs a busy row a fifth of its speed
                 let job = Job { ..job };
                 self.stage = Stage::Holding(Held { job, holds: 0 });
             }
@@ -95,7 +96,7 @@ impl<Q: ReadyQueue> Parts<Q> {
         }
     }
 
-    // The most holds in a row of the job in the hand.
+    // The most holds in a row of the job in the hand; without one no hold is possible.
     fn most_holds(&self, rows: &[Row]) -> u32
         ensures { result ≡ most_holds rows.now self.now.stage }
     {
@@ -105,7 +106,7 @@ impl<Q: ReadyQueue> Parts<Q> {
         }
     }
 
-    // The job is done.
+    // The job is done. This and the two below differ in what becomes of the job, and so in what they leave of the bench.
     fn finish(&mut self, job: Job) -> Tick
         requires midway { Midway 1 self.old }
         requires hand { (holds : ℕ) × (self.old.stage ≡ Keeping (record { job = job; holds = holds })) }

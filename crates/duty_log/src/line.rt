@@ -32,7 +32,7 @@ impl Event {
     }
 }
 
-// The line of a tick. An idle tick has 0 for task, job and left.
+// The line of a tick. An idle tick has 0 for task, job and left: every tick line has the same five fields.
 #[derive(Clone, Copy, Debug, PartialEq, Eq)]
 pub struct Tick {
     // the clock before the step

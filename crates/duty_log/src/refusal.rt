@@ -13,7 +13,7 @@ pub enum StepRefusal {
 }
 
 impl StepRefusal {
-    // The refusal's number in logs and documents.
+    // The refusal's number in logs and documents. A method: `u32::from` would not say which number.
     pub fn number(self) -> u32
         ensures { result ≡ step_number self }
     {
@@ -29,7 +29,7 @@ pub enum LogRefusal {
 }
 
 impl LogRefusal {
-    // The refusal's number in logs and documents.
+    // The refusal's number in logs and documents. A method: `u32::from` would not say which number.
     pub fn number(self) -> u32
         ensures { result ≡ number_of self }
     {

@@ -7,7 +7,7 @@ use crate::entry::HeapEntry;
 use ready::job::Job;
 
 impl HeapEntry for Job {
-    // four jobs of each of 32 tasks
+    // four jobs of each of 32 tasks; each kind of entry names its number itself
     const MOST: usize = 128;
 
     ghost MOST = { 128 };

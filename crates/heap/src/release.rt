@@ -14,7 +14,7 @@ pub struct Release {
 }
 
 impl HeapEntry for Release {
-    // one for each of 32 tasks
+    // one for each of 32 tasks; each kind of entry names its number itself
     const MOST: usize = 32;
 
     ghost MOST = { 32 };

@@ -68,6 +68,7 @@ fn sift_down<T: HeapEntry>(heap: &mut [T])
 }
 
 // Adds an entry to the heap in the first `len` slots, which then is in the first `len + 1`.
+// The length stands beside the slots, and no shorter slice in their place: an entry is put into the slot behind.
 pub fn add<T: HeapEntry>(slots: &mut [T], len: usize, x: T) -> Result<(), HeapRefusal>
     ensures answer { result ≡ add_answer T.MOST (length slots.old) len }
     ensures after { MatchResult result (λ _. Added T.fields T.ahead x len slots.old slots.new) (λ _. slots.new ≡ slots.old) }

@@ -10,7 +10,7 @@ use ready::put::MOST_JOBS;
 pub mod operations;
 
 // A heap in the first `len` slots: of tasks 1 to 32, no job twice, at most four jobs of a task. So 128 slots are enough.
-// Slots and a length: no heap memory is asked for, and std has no vector of a fixed capacity.
+// Slots and a length: no heap memory is asked for, and std, beside which nothing is trusted here, has no vector of a fixed capacity.
 #[derive(Drop)]
 pub struct HeapQueue {
     slots: [Job; MOST_JOBS],

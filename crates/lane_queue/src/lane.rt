@@ -9,7 +9,7 @@ use ready::put::MOST_OF_TASK;
 mod changes;
 
 // Up to four jobs, most urgent first, in the first `len` places.
-// Places and a length: no heap memory is asked for, and std has no vector of a fixed capacity.
+// Places and a length: no heap memory is asked for, and std, beside which nothing is trusted here, has no vector of a fixed capacity.
 #[derive(Clone, Copy)]
 pub(crate) struct Lane {
     pub(crate) jobs: [Job; MOST_OF_TASK],

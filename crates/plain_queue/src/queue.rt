@@ -7,7 +7,7 @@ use ready::job::Job;
 use ready::put::MOST_JOBS;
 
 // The waiting jobs stand in the first `count` slots, the most urgent one last, so that taking it moves no other.
-// Slots and a count: no heap memory is asked for, and std has no vector of a fixed capacity.
+// Slots and a count: no heap memory is asked for, and std, beside which nothing is trusted here, has no vector of a fixed capacity.
 #[derive(Drop)]
 pub struct PlainQueue {
     pub(crate) slots: [Job; MOST_JOBS],

@@ -9,7 +9,7 @@ pub enum QuestionRefusal {
 }
 
 impl QuestionRefusal {
-    // The refusal's number in logs and documents.
+    // The refusal's number in logs and documents. A method: `u32::from` would not say which number.
     pub fn number(self) -> u32
         ensures { result ≡ question_number self }
     {

@@ -20,7 +20,7 @@ pub enum Rule {
 }
 
 impl Rule {
-    // The number of the fault that a broken rule is.
+    // The number of the fault that a broken rule is. A method: `u32::from` would not say which number.
     fn number(self) -> u32
         ensures { result ≡ rule_number self }
     {

@@ -8,7 +8,8 @@ pub(crate) const ROW_BYTES: usize = 28;
 
 pub(crate) const MOST_ROWS: usize = 32;
 
-// How many bytes the sheet of `count` rows has.
+// How many bytes the sheet of `count` rows has. That there are at most 32 is a fact of the table or of the header,
+// and what is private here asks for it where it reckons.
 pub(crate) fn sheet_size(count: usize) -> usize
     requires { count ≤ 32 }
     ensures { result ≡ sheet_size count }

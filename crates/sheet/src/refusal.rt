@@ -10,7 +10,7 @@ pub enum WriteRefusal {
 }
 
 impl WriteRefusal {
-    // The refusal's number in logs and documents.
+    // The refusal's number in logs and documents. A method: `u32::from` would not say which number.
     pub fn number(self) -> u32
         ensures { result ≡ refusal_number self }
     {

@@ -16,7 +16,7 @@ pub(crate) fn is_printable(label: &[u8; 8]) -> bool
     label.iter().all(|b| (32..=126).contains(b))
 }
 
-// The rules after those of the label and the code, where the row before has the deadline `before`; 0 for the first row.
+// The rules after those of the label and the code, where the row before has the deadline `before`; 0 for the first row, since no deadline is below it.
 pub(crate) fn check_numbers(before: u32, row: &Row) -> Result<(), Rule>
     requires label { lawful_label row.now.label ≡ true }
     requires code { no_entry row.now.code ≡ false }

@@ -6,6 +6,7 @@ ghost use Rattle.heap.specs.Releases.{coming, coming_answer, coming_list};
 use super::Releases;
 use crate::release::Release;
 use crate::slots::{HeapRefusal, add, remove};
+use ready::put::TASKS;
 
 impl Releases {
     // No release is to come.
@@ -13,7 +14,7 @@ impl Releases {
         ensures { coming result ≡ [] }
     {
         Releases {
-            slots: [Release::default(); 32],
+            slots: [Release::default(); TASKS as usize],
             len: 0,
         }
     }

@@ -5,7 +5,7 @@ use Rattle.ready.specs.Waiting.{put_list}
 use Rattle.duty_bench.specs.Awaited.{Awaits}
 use Rattle.duty_bench.specs.Bounds.{Counted}
 use Rattle.duty_bench.specs.Model.{hand_of, miss_of, state_of}
-use Rattle.duty_bench.proofs.Due.{within, deadline_most, period_most, counted_after, awaits_after}
+use Rattle.duty_bench.proofs.Due.{soon, within, counted_after, awaits_after}
 use Rattle.duty_bench.proofs.parts.Parts.release.Goals as goal
 
 pub count_release-number-requires : goal.count_release-number-requires
@@ -16,11 +16,13 @@ count_release-number-requires g c = record {
 
 pub overflow_add-self : goal.overflow_add-self
 overflow_add-self g c =
-    omega (arith, ap (λ (r : Row). r.deadline) c.row_of-row.ensures, deadline_most c.args.rows.now c.requires.awaits.lawful c.args.task, c.requires.midway.early)
+    let most = soon c.args.rows.now c.requires.awaits.lawful c.args.task in
+    omega (arith, ap (λ (r : Row). r.deadline) c.row_of-row.ensures, ap (λ (r : Row). r.period) c.row_of-row.ensures, most.0, most.1, c.requires.midway.early)
 
 pub overflow_add-self-2 : goal.overflow_add-self-2
 overflow_add-self-2 g c =
-    omega (arith, ap (λ (r : Row). r.period) c.row_of-row.ensures, period_most c.args.rows.now c.requires.awaits.lawful c.args.task, c.requires.midway.early)
+    let most = soon c.args.rows.now c.requires.awaits.lawful c.args.task in
+    omega (arith, ap (λ (r : Row). r.deadline) c.row_of-row.ensures, ap (λ (r : Row). r.period) c.row_of-row.ensures, most.0, most.1, c.requires.midway.early)
 
 pub returns : goal.returns
 returns g c =
