@@ -44,7 +44,7 @@ fn put_row(bytes: &mut [u8], task: Task) {
     put(bytes, 24, period.wrapping_mul(65536));
 }
 
-// Fills in the sheet of these rows, and gives its size: there is no heap to make one of the right length on.
+// Fills in the sheet of these rows, and gives its size: no heap memory is asked for.
 pub fn fill(bytes: &mut [u8; 912], tasks: &[Task]) -> usize {
     let count = tasks.len().min(32);
     let size = 16 + 28 * count;

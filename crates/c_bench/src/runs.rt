@@ -39,7 +39,7 @@ fn end_line(sheet: &[u8], letters: &[u8]) -> Line
 }
 
 // Runs a sheet on letters, each done or refused, and writes the last line of the log, or the line of a refused sheet, to the front of `out`.
-// Gives the number of bytes, or 0 where the line has no room; then `out` is as it was.
+// Gives the number of bytes, or 0 where the line has no room, since C has no `Option`; then `out` is as it was.
 #[unsafe(no_mangle)]
 pub extern "C" fn duty_end(sheet: &[u8], letters: &[u8], out: &mut [u8]) -> usize
     ensures { Filled (bytes_of (end_line letters.now (read_sheet sheet.now))) result out.old out.new }

@@ -14,7 +14,7 @@ pub const LAST_CLOCK: u32 = 1_000_000_000;
 
 impl<Q: ReadyQueue> Bench<Q> {
     // One step with a letter: r to run, h to hold the processor, f to finish. A refused step alters nothing.
-    // That the rows stay, here and below, is said beside the state, which does not tell it.
+    // That the rows stay, here and in what calls it, is said beside the state, which does not tell it.
     pub fn step(&mut self, letter: char) -> Result<Outcome, StepRefusal>
         ensures state { self.new.state ≡ (rules_step self.old.rows letter self.old.state).state }
         ensures answer { result ≡ (rules_step self.old.rows letter self.old.state).answer }

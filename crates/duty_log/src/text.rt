@@ -57,7 +57,7 @@ impl Text {
     }
 
     // Adds a number in decimal. Its digits come last first: those after the first are put together from the end of an array.
-    // Their place is counted, since no proof knows what was written by way of `iter_mut`, and a recursion takes half as long again.
+    // Their place is counted, since they are cut off there at last, whatever the loop; a recursion takes half as long again.
     fn digits(&mut self, n: u32)
         requires { length self.old + length (decimal n) ≤ longest }
         ensures { self.new ≡ self.old ++ decimal n }

@@ -7,7 +7,7 @@ use crate::entry::HeapEntry;
 use ready::job::Job;
 
 impl HeapEntry for Job {
-    // four jobs of each of 32 tasks; each kind of entry names its number itself
+    // four jobs of each of 32 tasks, written out: each kind of entry is to name its own number
     const MOST: usize = 128;
 
     ghost MOST = { 128 };

@@ -14,7 +14,7 @@ pub struct Release {
 }
 
 impl HeapEntry for Release {
-    // one for each of 32 tasks; each kind of entry names its number itself
+    // one for each of 32 tasks, written out: each kind of entry is to name its own number
     const MOST: usize = 32;
 
     ghost MOST = { 32 };

@@ -14,7 +14,7 @@ use verdict::judged::Judged;
 // One byte more than the longest sheet has: a longer one gets the same fault from these as it would whole.
 const ROOM: usize = 913;
 
-// Fills the buffer from the input as far as either goes, and gives the number of bytes. A buffer and a number: there is no heap.
+// Fills the buffer from the input as far as either goes, and gives the number of bytes. A buffer and a number: no heap memory is asked for.
 fn fill(input: &mut impl Read, buffer: &mut [u8; ROOM]) -> io::Result<usize>
     ensures { IfOk result (λ n. n ≤ 913) }
 {

@@ -37,7 +37,7 @@ pub enum Layer {
 }
 
 impl Layer {
-    // The layer's number in logs and documents.
+    // The layer's number in logs and documents. A method: `u32::from` would not say which number.
     pub fn number(self) -> u32
         ensures { result ≡ layer_number self }
     {
@@ -60,7 +60,7 @@ pub enum Fault {
 }
 
 impl Fault {
-    // The fault's number in logs and documents.
+    // The fault's number in logs and documents. By a match: a broken rule has its own, so a fault has no number beside each case.
     pub fn number(self) -> u32
         ensures { result ≡ number_of self }
     {

@@ -58,10 +58,10 @@ impl ReadyQueue for LaneQueue {
     }
 
     fn put(&mut self, job: Job) -> Result<(), PutRefusal> {
+        // the tests of a put, on the lane of the task alone: its length is the count
         if job.task == 0 || job.task > TASKS {
             return Err(PutRefusal::NoSuchTask);
         }
-        // the tests of a put, on the lane of the task alone: its length is the count
         let i = (job.task - 1) as usize;
         let mut lane = self.lanes[i];
         if lane.has(job.number) {
