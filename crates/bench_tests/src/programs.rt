@@ -1,7 +1,8 @@
 // Whole logs of the program, from a sheet and letters that come in two parts each.
 use crate::sheets::{EXAMPLE, OVERLOADED, Task, fill};
 use program::run::run;
-use std::io::{Cursor, Read};
+use std::io;
+use std::io::{Cursor, ErrorKind, Read};
 use std::process::Abort;
 
 // A run has this log.
@@ -113,4 +114,37 @@ fn every_letter_is_a_step(rt: HostRuntime) {
     let last = b"end 10000 2500 4167 833\n";
     assert!(rt; end >= last.len() && end <= 160_000);
     assert!(rt; &log[end - last.len()..end] == &last[..]);
+}
+
+// A reader of which one read is interrupted, before its bytes come.
+#[derive(Drop)]
+struct InterruptedOnce<'a> {
+    interrupted: bool,
+    bytes: &'a [u8],
+}
+
+impl Read for InterruptedOnce<'_> {
+    fn read(&mut self, buffer: &mut [u8]) -> io::Result<usize> {
+        if self.interrupted {
+            self.interrupted = false;
+            return Err(io::Error::from(ErrorKind::Interrupted));
+        }
+        self.bytes.read(buffer)
+    }
+}
+
+// A read that fails ends the run, also one that a second try would mend; nothing is printed then.
+#[test]
+fn an_interrupted_sheet_ends_the_run(rt: HostRuntime) {
+    let mut bytes = [0u8; 912];
+    let size = fill(&mut bytes, &EXAMPLE).min(912);
+    let mut log = [0u8; 400];
+    let mut output = Cursor::new(&mut log[..]);
+    let mut sheet = InterruptedOnce {
+        interrupted: true,
+        bytes: &bytes[..size],
+    };
+    let went = run(&mut sheet, &mut &b"rrrrrr"[..], &mut output);
+    assert!(rt; went.is_err());
+    assert_eq!(rt; output.position(), 0);
 }

@@ -27,7 +27,11 @@ pub true_of_bench : (P : List Row → State → Type 0) → EveryRun P → (b : 
 true_of_bench P law b r =
     subst (P b.rows) (sym r.state) (subst (λ (rows : List Row). P rows (after_run rows r.calls)) (sym r.rows) (law r.table r.calls))
 
--- so its closing keeps the promise
+-- so its numbers fit
+pub fits_of : (b : BenchState) → Reached b → NumbersFit b.rows b.state
+fits_of b r = true_of_bench NumbersFit every_fits b r
+
+-- and its closing keeps the promise
 pub promised_of : (b : BenchState) → Reached b → Promised b.rows (closing_of b.state)
 promised_of b r = true_of_bench (λ rows s. Promised rows (closing_of s)) every_closing b r
 

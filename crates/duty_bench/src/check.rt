@@ -44,14 +44,18 @@ impl Stage {
 }
 
 impl<Q: ReadyQueue> Parts<Q> {
-    // The most urgent job among hand and queue.
+    // The most urgent job among hand and queue. A hand is looked at where it lies, in either state that has one:
+    // an idle tick takes a sixth longer where it is copied out of the two first.
     fn most_urgent(&self) -> Option<Job>
         ensures { result ≡ most_urgent (hand_of self.now.stage) (Q.waiting self.now.queue) }
     {
-        let first = self.queue.first();
-        match self.stage.hand() {
-            None => first,
-            Some(held) => Some(more_urgent(held.job, first)),
+        match &self.stage {
+            Stage::Holding(held)
+            | Stage::Stopped {
+                hand: Some(held),
+                ..
+            } => { Some(more_urgent(held.job, self.queue.first())) }
+            _ => self.queue.first(),
         }
     }
 

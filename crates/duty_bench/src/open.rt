@@ -4,6 +4,7 @@ ghost use Rattle.rules.specs.State.{opened, no_counts};
 ghost use Rattle.rules.specs.Promises.{Promised};
 ghost use Rattle.rules.specs.Run.{closing_of};
 ghost use Rattle.duty_bench.specs.Model.{judged_rows};
+ghost use Rattle.duty_bench.specs.Reached.{Reached};
 
 use crate::bench::Bench;
 use crate::parts::Parts;
@@ -19,6 +20,7 @@ use verdict::judged::Judged;
 pub fn open<Q: ReadyQueue>(judged: Judged, mut queue: Q) -> Bench<Q>
     ensures rows { result.rows ≡ judged_rows judged }
     ensures state { result.state ≡ opened (judged_rows judged) }
+    ensures reached { Reached result }
 {
     queue.clear();
     let coming = first_releases(&judged);

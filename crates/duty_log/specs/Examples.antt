@@ -6,10 +6,11 @@ use Rattle.verdict.specs.declared.answer.Verdict.TheVariants.{Admitted, FailsAt}
 use Rattle.duty_log.specs.declared.line.Event.{Event}
 use Rattle.duty_log.specs.declared.line.Event.TheVariants.{PutBack, Held, Done, Idle}
 use Rattle.duty_log.specs.declared.line.Tick.{Tick}
+use Rattle.duty_log.specs.declared.line.Numbered.TheVariants as numbered
 use Rattle.duty_log.specs.declared.line.Line.TheVariants as line
 use Rattle.duty_log.specs.declared.refusal.StepRefusal.TheVariants.{Stopped, LastClock, NoSuchLetter}
 use Rattle.duty_log.specs.declared.refusal.LogRefusal.TheVariants.{ShortBuffer}
-use Rattle.duty_log.specs.Lines.{line_of, bytes_of, outcome_bytes, answer_bytes, longest}
+use Rattle.duty_log.specs.Lines.{line_of, numbered_bytes, bytes_of, outcome_bytes, answer_bytes, longest}
 use Rattle.duty_log.specs.Refusals.{number_of}
 use Rattle.duty_log.specs.Written.{answer_of, buffer_of}
 
@@ -35,6 +36,15 @@ pub record LinesAsWritten : Type 0 where
   pub miss : bytes_of (line.Miss (record { task = 2; job = 1 })) ≡ codes "miss 2 1\n"
   pub refused : bytes_of (line.Refused NoSuchLetter) ≡ codes "refused 14\n"
   pub end : bytes_of (line.End (record { clock = 6; idle = 1; begun = 3; interruptions = 1 })) ≡ codes "end 6 1 3 1\n"
+
+-- lines of plain numbers, of some that no verdict, no fault and no refusal has
+pub record NumbersAsWritten : Type 0 where
+  pub admitted : numbered_bytes (numbered.Verdict 0) ≡ codes "verdict 0\n"
+  pub fails : numbered_bytes (numbered.Verdict 12) ≡ codes "verdict 12\n"
+  pub sheet : numbered_bytes (numbered.Sheet 7 3 2) ≡ codes "sheet 7 3 2\n"
+  pub other_sheet : numbered_bytes (numbered.Sheet 11 most 0) ≡ codes "sheet 11 4294967295 0\n"
+  pub refused : numbered_bytes (numbered.Refused 14) ≡ codes "refused 14\n"
+  pub other_refused : numbered_bytes (numbered.Refused 16) ≡ codes "refused 16\n"
 
 -- a step's outcome with a miss and without one
 pub record OutcomesAsWritten : Type 0 where

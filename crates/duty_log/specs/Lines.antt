@@ -8,6 +8,8 @@ use Rattle.duty_log.specs.declared.line.Tick.{Tick}
 use Rattle.duty_log.specs.declared.line.Miss.{Miss}
 use Rattle.duty_log.specs.declared.line.End.{End}
 use Rattle.duty_log.specs.declared.line.Outcome.{Outcome}
+use Rattle.duty_log.specs.declared.line.Numbered.{Numbered}
+use Rattle.duty_log.specs.declared.line.Numbered.TheVariants as numbered
 use Rattle.duty_log.specs.declared.line.Line.{Line}
 use Rattle.duty_log.specs.declared.line.Line.TheVariants as line
 use Rattle.duty_log.specs.declared.refusal.StepRefusal.{StepRefusal}
@@ -38,14 +40,20 @@ miss_bytes m = line_of (codes "miss" ∷ decimal m.task ∷ decimal m.job ∷ []
 abbrev pub end_bytes : End → List ℕ
 end_bytes e = line_of (codes "end" ∷ decimal e.clock ∷ decimal e.idle ∷ decimal e.begun ∷ decimal e.interruptions ∷ [])
 
+-- the bytes of a line of plain numbers
+abbrev pub numbered_bytes : Numbered → List ℕ
+numbered_bytes (numbered.Verdict n) = line_of (codes "verdict" ∷ decimal n ∷ [])
+numbered_bytes (numbered.Sheet number layer row) = line_of (codes "sheet" ∷ decimal number ∷ decimal layer ∷ decimal row ∷ [])
+numbered_bytes (numbered.Refused n) = line_of (codes "refused" ∷ decimal n ∷ [])
+
 -- the bytes of a line: of a verdict its number; of a refused sheet the fault's number, its layer's, and the row or 0; of a refused step its number
 abbrev pub bytes_of : Line → List ℕ
 bytes_of line.Head = codes "tick task job left event\n"
-bytes_of (line.Verdict verdict) = line_of (codes "verdict" ∷ decimal (verdict_number verdict) ∷ [])
-bytes_of (line.Sheet fault) = line_of (codes "sheet" ∷ decimal (fault_number fault) ∷ decimal (layer_number (layer_of fault)) ∷ decimal (unwrap_or (row_of_fault fault) 0) ∷ [])
+bytes_of (line.Verdict verdict) = numbered_bytes (numbered.Verdict (verdict_number verdict))
+bytes_of (line.Sheet fault) = numbered_bytes (numbered.Sheet (fault_number fault) (layer_number (layer_of fault)) (unwrap_or (row_of_fault fault) 0))
 bytes_of (line.Tick t) = tick_bytes t
 bytes_of (line.Miss m) = miss_bytes m
-bytes_of (line.Refused refusal) = line_of (codes "refused" ∷ decimal (step_number refusal) ∷ [])
+bytes_of (line.Refused refusal) = numbered_bytes (numbered.Refused (step_number refusal))
 bytes_of (line.End e) = end_bytes e
 
 -- the line of a miss, or nothing

@@ -6,4 +6,4 @@ pub mod logged;
 pub mod refusal;
 pub mod text;
 pub mod theorems;
-mod write;
+pub mod write;

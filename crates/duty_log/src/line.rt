@@ -60,6 +60,17 @@ pub struct End {
     pub interruptions: u32,
 }
 
+// A line that tells plain numbers, whatever they stand for.
+#[derive(Clone, Copy, Debug, PartialEq, Eq)]
+pub enum Numbered {
+    // 0 where the table is admitted, else the first row that fails
+    Verdict(u32),
+    // a refused sheet: the refusal's number, the layer that found it, and the row or 0
+    Sheet { number: u32, layer: u32, row: u32 },
+    // a refused step, by the refusal's number
+    Refused(u32),
+}
+
 #[derive(Clone, Copy, Debug, PartialEq, Eq)]
 pub enum Line {
     // the names of a tick line's fields, which begin every log

@@ -17,7 +17,7 @@ impl StepRefusal {
     pub fn number(self) -> u32
         ensures { result ≡ step_number self }
     {
-        self as u32
+        self as u32 // 12, 13 or 14
     }
 }
 

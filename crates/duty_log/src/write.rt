@@ -1,8 +1,8 @@
 // The text of each line.
 ghost use Rattle.std.specs.Prelude.{◌≡◌, ◌+◌, ◌≤◌, ◌++◌, length};
-ghost use Rattle.duty_log.specs.Lines.{tick_bytes, miss_bytes, end_bytes, bytes_of, outcome_bytes, answer_bytes, longest};
+ghost use Rattle.duty_log.specs.Lines.{tick_bytes, miss_bytes, end_bytes, numbered_bytes, bytes_of, outcome_bytes, answer_bytes, longest};
 
-use crate::line::{End, Line, Miss, Outcome, Tick};
+use crate::line::{End, Line, Miss, Numbered, Outcome, Tick};
 use crate::logged::Logged;
 use crate::refusal::StepRefusal;
 use crate::text::Text;
@@ -34,6 +34,29 @@ impl Text {
         self.field(miss.job, b'\n');
     }
 
+    // Adds a line of plain numbers.
+    fn numbered(&mut self, line: Numbered)
+        requires { length self.old + 41 ≤ longest }
+        ensures { self.new ≡ self.old ++ numbered_bytes line }
+    {
+        match line {
+            Numbered::Verdict(number) => {
+                self.append(b"verdict ");
+                self.field(number, b'\n');
+            }
+            Numbered::Sheet { number, layer, row } => {
+                self.append(b"sheet ");
+                self.field(number, b' ');
+                self.field(layer, b' ');
+                self.field(row, b'\n');
+            }
+            Numbered::Refused(number) => {
+                self.append(b"refused ");
+                self.field(number, b'\n');
+            }
+        }
+    }
+
     // Adds the last line.
     fn end(&mut self, end: End)
         requires { length self.old + 48 ≤ longest }
@@ -47,6 +70,16 @@ impl Text {
     }
 }
 
+impl Logged for Numbered {
+    ghost bytes = { numbered_bytes };
+
+    fn text(&self) -> Text {
+        let mut text = Text::new();
+        text.numbered(*self);
+        text
+    }
+}
+
 impl Logged for Line {
     ghost bytes = { bytes_of };
 
@@ -54,22 +87,15 @@ impl Logged for Line {
         let mut text = Text::new();
         match *self {
             Line::Head => text.append(HEAD),
-            Line::Verdict(verdict) => {
-                text.append(b"verdict ");
-                text.field(verdict.number(), b'\n');
-            }
-            Line::Sheet(fault) => {
-                text.append(b"sheet ");
-                text.field(fault.number(), b' ');
-                text.field(fault.layer().number(), b' ');
-                text.field(fault.row().unwrap_or(0), b'\n');
-            }
+            Line::Verdict(verdict) => text.numbered(Numbered::Verdict(verdict.number())),
+            Line::Sheet(fault) => text.numbered(Numbered::Sheet {
+                number: fault.number(),
+                layer: fault.layer().number(),
+                row: fault.row().unwrap_or(0),
+            }),
             Line::Tick(tick) => text.tick(tick),
             Line::Miss(miss) => text.miss(miss),
-            Line::Refused(refusal) => {
-                text.append(b"refused ");
-                text.field(refusal.number(), b'\n');
-            }
+            Line::Refused(refusal) => text.numbered(Numbered::Refused(refusal.number())),
             Line::End(end) => text.end(end),
         }
         text

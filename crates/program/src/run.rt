@@ -15,12 +15,19 @@ use verdict::judged::Judged;
 const ROOM: usize = 913;
 
 // Fills the buffer from the input as far as either goes, and gives the number of bytes. A buffer and a number: no heap memory is asked for.
+// Each read is one turn of a loop: `io::copy` would try an interrupted read again, for ever if need be, where a read that fails ends the run.
 fn fill(input: &mut impl Read, buffer: &mut [u8; ROOM]) -> io::Result<usize>
     ensures { IfOk result (λ n. n ≤ 913) }
 {
-    let count = io::copy(&mut input.take(ROOM as u64), &mut &mut buffer[..])?;
-    // never more than that, which no clause of the copy says
-    Ok(count.min(ROOM as u64) as usize)
+    let mut count = 0;
+    for _ in 0..ROOM {
+        let more = input.read(&mut buffer[count..])?;
+        if more == 0 {
+            break;
+        }
+        count += more;
+    }
+    Ok(count)
 }
 
 // Runs the judged table on the letters and prints the log.

@@ -1,4 +1,5 @@
 // The laws of a run: each function's contract is a law of every run on every table.
+ghost use Rattle.std.specs.Prelude.{List};
 ghost use Rattle.rules.specs.Accounts.{AllProper, BegunCounted, GivenAtMost, GivenExactly, HoldsFew, IdleOnlyIfNothingPends, InOrder, MissIsLate, MostUrgentRuns, NothingLost, NumbersFit, PutsAcceptedIfRunning, ReleasedOnTime, TimeAccounted, WaitingLawful};
 ghost use Rattle.sheet.specs.declared.row.Row.{Row};
 ghost use Rattle.rules.specs.Deadlines.{DeadlinesFollow};
@@ -7,6 +8,7 @@ ghost use Rattle.rules.specs.Examples.{Answered, Asked, Closed, CountedOut, Exam
 ghost use Rattle.rules.specs.Lines.{LinesTell};
 ghost use Rattle.rules.specs.Progress.{CallsInOrder, EveryQuestion, Steps};
 ghost use Rattle.rules.specs.Promises.{DeadlinesMet, EveryClosing, EveryRun, FewInterruptions, InTime, Punctual, Running, RunsWhileInTime};
+ghost use Rattle.rules.specs.State.{State};
 
 // Worked runs.
 pub fn worked_runs()
@@ -108,10 +110,11 @@ pub fn lines_tell_the_counts()
     ensures { LinesTell }
 {}
 
-// Every tick was given to a task, or nothing was pending.
+// Every tick was given to a task, or nothing was pending; the latter in any state, whether a run leaves it or not.
 pub fn every_tick_is_accounted_for()
     ensures idle_or_given { EveryRun TimeAccounted }
     ensures idle_if_nothing { EveryRun IdleOnlyIfNothingPends }
+    ensures idle_in_any_state { (rows : List Row) (s : State) → IdleOnlyIfNothingPends rows s }
 {}
 
 // A job gets at most its units, and exactly them unless it is ended early.

@@ -27,4 +27,8 @@ invariant_of-result g c =
     }
 
 pub returns : goal.returns
-returns g c = record { rows = refl; state = is_opened c.args.judged c.clear.ensures c.default.ensures c.default-2.ensures }
+returns g c = record {
+  rows = refl;
+  state = is_opened c.args.judged c.clear.ensures c.default.ensures c.default-2.ensures;
+  reached = (invariant_of-result g c).reached;
+}

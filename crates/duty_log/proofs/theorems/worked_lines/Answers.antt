@@ -21,6 +21,7 @@ returns c =
             refused = refl;
             end = refl;
           };
+      numbers = record { admitted = refl; fails = refl; sheet = refl; other_sheet = refl; refused = refl; other_refused = refl };
       outcomes = record { missed = refl; punctual = refl };
       answers = record { punctual = refl; missed = refl; stopped = refl; last_clock = refl; no_letter = refl };
       longest = record { reached = refl };

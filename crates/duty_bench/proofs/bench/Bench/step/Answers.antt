@@ -35,4 +35,5 @@ returns g c =
       state = step_state c.rows.result.now rows c.args.letter c.in_ok-letter.letter s c.rows.ensures miss c.if-self-eq-LAST_CLOCK.false read _ c.advance.ensures.is;
       answer = step_answer c.rows.result.now rows c.args.letter c.in_ok-letter.letter s c.rows.ensures miss c.if-self-eq-LAST_CLOCK.false read _ c.advance.ensures.outcome;
       rows = refl;
+      reached = (invariant_of-self g c).reached;
     })
