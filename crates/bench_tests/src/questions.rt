@@ -1,4 +1,4 @@
-// Sums of what a bench answers. They cannot overflow, and what says so are the contracts of the questions alone.
+// Sums of what a bench answers and gives. They cannot overflow, and what says so are the contracts of its calls alone.
 use crate::sheets::{EXAMPLE, table};
 use duty_bench::bench::Bench;
 use duty_bench::open::open;
@@ -24,10 +24,34 @@ fn given_and_done<Q: ReadyQueue>(bench: &Bench<Q>, task: u32) -> u32 {
     }
 }
 
+fn after_first<Q: ReadyQueue>(bench: &Bench<Q>) -> u32 {
+    match bench.first_waiting() {
+        Some(job) => job.task + 1,
+        None => 0,
+    }
+}
+
+fn clock_after_step<Q: ReadyQueue>(bench: &mut Bench<Q>) -> u32 {
+    match bench.step('r') {
+        Ok(outcome) => outcome.tick.clock + 1,
+        Err(_) => 0,
+    }
+}
+
+fn clock_and_idle<Q: ReadyQueue>(bench: Bench<Q>) -> u32 {
+    let closing = bench.close();
+    closing.clock + closing.counts.idle
+}
+
 #[test]
 fn the_answers_of_a_bench_add_up(rt: HostRuntime) -> Result<(), Fail> {
     let mut bench = open(judge(table(&EXAMPLE)?), PlainQueue::new());
-    for _ in 0..6 {
+    for _ in 0..3 {
+        let _ = bench.step('r');
+    }
+    let first = after_first(&bench);
+    let clock = clock_after_step(&mut bench);
+    for _ in 0..2 {
         let _ = bench.step('r');
     }
     let sums = (
@@ -36,7 +60,9 @@ fn the_answers_of_a_bench_add_up(rt: HostRuntime) -> Result<(), Fail> {
         given_and_done(&bench, 1),
         given_and_done(&bench, 3),
     );
-    let _ = bench.close();
+    let closed = clock_and_idle(bench);
+    assert_eq!(rt; (first, clock), (3, 4));
     assert_eq!(rt; sums, (7, 4, 4, 0));
+    assert_eq!(rt; closed, 7);
     Ok(())
 }

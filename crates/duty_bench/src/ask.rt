@@ -1,6 +1,7 @@
 // Questions to a bench. They alter nothing, and a stopped bench answers them too. Each says, too, that its numbers are
 // within their bounds, and that a run on a table left the bench, so that each law of every run is true of it.
 ghost use Rattle.std.specs.Prelude.{◌≡◌};
+ghost use Rattle.ready.specs.Waiting.{Lawful};
 ghost use Rattle.rules.specs.Accounts.{NumbersFit};
 ghost use Rattle.rules.specs.Step.{task_answer, first_answer};
 ghost use Rattle.duty_bench.specs.Reached.{Reached};
@@ -45,6 +46,7 @@ impl<Q: ReadyQueue> Bench<Q> {
     // The first job that waits in the queue, if any; a job in the hand does not wait.
     pub fn first_waiting(&self) -> Option<Job>
         ensures answer { result ≡ first_answer self.now.state }
+        ensures lawful { Lawful self.now.state.waiting }
         ensures fits { NumbersFit self.now.rows self.now.state }
         ensures reached { Reached self.now }
     {

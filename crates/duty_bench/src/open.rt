@@ -1,5 +1,6 @@
 // Opening and closing a bench.
 ghost use Rattle.std.specs.Prelude.{◌≡◌, ◌-◌, ◌≤◌, ◌++◌, length, replicate};
+ghost use Rattle.rules.specs.Accounts.{NumbersFit};
 ghost use Rattle.rules.specs.State.{opened, no_counts};
 ghost use Rattle.rules.specs.Promises.{Promised};
 ghost use Rattle.rules.specs.Run.{closing_of};
@@ -54,6 +55,8 @@ impl<Q: ReadyQueue> Bench<Q> {
     pub fn close(self) -> Closing
         ensures closing { result ≡ closing_of self.state }
         ensures promised { Promised self.rows result }
+        ensures fits { NumbersFit self.rows self.state }
+        ensures reached { Reached self }
     {
         let Bench {
             judged,

@@ -1,6 +1,7 @@
 // A step of the bench.
 ghost use Rattle.std.specs.Prelude.{◌≡◌};
 ghost use Rattle.rules.specs.Step.{step as rules_step};
+ghost use Rattle.rules.specs.Accounts.{NumbersFit};
 ghost use Rattle.duty_bench.specs.Reached.{Reached};
 
 use crate::bench::Bench;
@@ -20,6 +21,7 @@ impl<Q: ReadyQueue> Bench<Q> {
         ensures state { self.new.state ≡ (rules_step self.old.rows letter self.old.state).state }
         ensures answer { result ≡ (rules_step self.old.rows letter self.old.state).answer }
         ensures rows { self.new.rows ≡ self.old.rows }
+        ensures fits { NumbersFit self.new.rows self.new.state }
         ensures reached { Reached self.new }
     {
         if let Stage::Stopped { .. } = self.parts.stage {

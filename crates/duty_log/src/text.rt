@@ -71,10 +71,7 @@ impl Text {
             rest /= 10;
         }
         self.push(b'0' + rest as u8);
-        // nothing more, most often: a number of one digit
-        if first < digits.len() {
-            self.append(&digits[first..]);
-        }
+        self.append(&digits[first..]);
     }
 
     // Adds a number and the byte that ends it, a space or the end of the line.

@@ -12,7 +12,7 @@ pub enum Letter {
 }
 
 // What the characters from f to r ask, each at its place. A table is read without a branch for each letter: by a match on
-// the three, mixed letters take a sixth longer, and a refused one half as long again.
+// the three, a run on mixed letters takes up to a sixth longer, and a refused letter more than half as long again.
 const FROM_F_TO_R: [Option<Letter>; 13] = [
     Some(Letter::Finish),
     None,

@@ -1,7 +1,8 @@
 use Rattle.std.proofs.Common.{sym, refl, ◌∙◌, subst}
+use Rattle.rules.specs.Accounts.{NumbersFit}
 use Rattle.duty_bench.specs.Awaited.{Awaits}
 use Rattle.duty_bench.specs.Model.{bench_of, judged_rows, state_of}
-use Rattle.duty_bench.proofs.Reaching.{may_step, reached_step}
+use Rattle.duty_bench.proofs.Reaching.{may_step, reached_step, fits_of}
 use Rattle.duty_bench.proofs.Steps.{no_miss, step_state, step_answer}
 use Rattle.duty_bench.proofs.bench.Bench.step.Goals as goal
 
@@ -35,5 +36,21 @@ returns g c =
       state = step_state c.rows.result.now rows c.args.letter c.in_ok-letter.letter s c.rows.ensures miss c.if-self-eq-LAST_CLOCK.false read _ c.advance.ensures.is;
       answer = step_answer c.rows.result.now rows c.args.letter c.in_ok-letter.letter s c.rows.ensures miss c.if-self-eq-LAST_CLOCK.false read _ c.advance.ensures.outcome;
       rows = refl;
+      fits = fits_of _ (invariant_of-self g c).reached;
       reached = (invariant_of-self g c).reached;
     })
+
+pub returns-in-Stopped-clause-fits : goal.returns-in-Stopped-clause-fits
+returns-in-Stopped-clause-fits g c =
+    subst (λ b. NumbersFit b.rows b.state) c.self.view_is
+    (fits_of (bench_of g.Q.ReadyQueue.waiting c.self.inside.judged c.self.inside.parts) c.self.invariant.reached)
+
+pub returns-then-self-eq-LAST_CLOCK-clause-fits : goal.returns-then-self-eq-LAST_CLOCK-clause-fits
+returns-then-self-eq-LAST_CLOCK-clause-fits g c =
+    subst (λ b. NumbersFit b.rows b.state) c.self.view_is
+    (fits_of (bench_of g.Q.ReadyQueue.waiting c.self.inside.judged c.self.inside.parts) c.self.invariant.reached)
+
+pub returns-in_err-letter-clause-fits : goal.returns-in_err-letter-clause-fits
+returns-in_err-letter-clause-fits g c =
+    subst (λ b. NumbersFit b.rows b.state) c.self.view_is
+    (fits_of (bench_of g.Q.ReadyQueue.waiting c.self.inside.judged c.self.inside.parts) c.self.invariant.reached)

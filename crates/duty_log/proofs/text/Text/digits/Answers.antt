@@ -1,5 +1,5 @@
-use Rattle.std.proofs.Common.{length, length-append, length-drop, append_assoc, append-nil, arith, ap, ◌∙◌}
-use Rattle.std.proofs.lemmas.List.{take_all, drop_all}
+use Rattle.std.proofs.Common.{length, length-append, length-drop, append_assoc, arith, ap, ◌∙◌}
+use Rattle.std.proofs.lemmas.List.{take_all}
 use Rattle.std.proofs.lemmas.Fmt.{decimal_digit, decimal_nonempty}
 use Rattle.duty_log.proofs.Digits.{room_before, last_digit}
 use Rattle.duty_log.proofs.text.Text.digits.Goals as goal
@@ -23,11 +23,5 @@ append-requires c =
     let long = ap length c.loop-rest.invariant.2 in
     grind (arith, length-append, length-drop, take_all)
 
-pub returns-then-first-lt10 : goal.returns-then-first-lt10
-returns-then-first-lt10 c = let one = decimal_digit c.loop-rest.rest c.loop-rest-test.false in grind (arith, length-drop, take_all, append_assoc)
-
-pub returns-else-first-lt10 : goal.returns-else-first-lt10
-returns-else-first-lt10 c =
-    let one = decimal_digit c.loop-rest.rest c.loop-rest-test.false in
-    let none = drop_all c.loop-rest.first c.loop-rest.digits (omega (arith, c.loop-rest.invariant.0)) in
-    grind (arith, none, append-nil)
+pub returns : goal.returns
+returns c = let one = decimal_digit c.loop-rest.rest c.loop-rest-test.false in grind (arith, length-drop, take_all, append_assoc)
